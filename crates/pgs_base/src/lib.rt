@@ -1,0 +1,2 @@
+// What every layer shares: the refusals and their numbers.
+pub mod refusal;
