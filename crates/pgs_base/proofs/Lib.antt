@@ -1,1 +1,6 @@
+pub mod Bytes
+pub mod Decisions
 pub mod Front
+pub mod Lists
+pub mod Outcomes
+pub mod Takes

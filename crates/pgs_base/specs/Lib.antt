@@ -1,2 +1,4 @@
+pub mod Bytes
+pub mod Cursor
 pub mod Outcome
 pub mod Refusals

@@ -1,6 +1,10 @@
 -- What a call comes to. 01, 'Why a call is turned down': "A refusal returns its number only."
 use Prim.Native.Nat.{ℕ}
+use mathlib.Core.Path.{_≡_}
 use mathlib.Core.Bool.{Bool, true, false}
+use mathlib.Core.List.{List, _++_}
+use lib.ListN.{length, drop}
+use lib.Dec.{leb}
 
 -- whether input is taken, or the number of why it is not
 pub data Verdict : Type 0 where
@@ -35,3 +39,19 @@ pick false a b = b
 abbrev pub isAccepted : Verdict → Bool
 isAccepted accepted = true
 isAccepted (refused k) = false
+
+-- 34: "a lent buffer or list is too short"
+abbrev pub needing : ℕ → ℕ → Verdict
+needing need room = unless 34 (leb need room)
+
+-- a lent list or buffer after a call that writes `new`. 01: "An accepted call changes only the bytes or records it needs", "A
+-- refused call changes nothing"
+abbrev pub laid : {A : Type 0} → Verdict → List A → List A → List A
+laid accepted new old = new ++ drop (length new) old
+laid (refused k) new old = old
+
+-- what a call promises that reads input of this verdict, answers `value` and writes `new` to the front of a lent list or buffer,
+-- which held `before` and holds `after`. 01: "Everywhere else 34 is last"; the need is the length of what is written
+pub record Delivered {A X : Type 0} (verdict : Verdict) (value : X) (new before after : List A) (answer : Outcome X) : Type 0 where
+  pub answered : answer ≡ outcomeOf (andThen verdict (needing (length new) (length before))) value
+  pub written : after ≡ laid (andThen verdict (needing (length new) (length before))) new before

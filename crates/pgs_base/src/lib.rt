@@ -1,2 +1,4 @@
-// What every layer shares: the refusals and their numbers.
+// What every layer shares: the refusals and their numbers, big-endian numbers, and the body cursor.
+pub mod cursor;
+pub mod number;
 pub mod refusal;

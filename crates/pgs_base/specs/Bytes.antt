@@ -1,0 +1,13 @@
+-- The number that bytes stand for. 01: "Multi-byte fields are big-endian."
+use Prim.Native.Nat.{ℕ, _+_, _*_, _^_}
+use mathlib.Core.List.{List, [], _∷_}
+use lib.ListN.{length, take, drop}
+
+-- the first byte counts most
+abbrev pub big : List ℕ → ℕ
+big [] = 0
+big (b ∷ bs) = b * 256 ^ length bs + big bs
+
+-- the number in the w bytes from place `at` of l
+unfoldable pub num : ℕ → ℕ → List ℕ → ℕ
+num w at l = big (take w (drop at l))

@@ -1,0 +1,6 @@
+pub mod HeaderLaws
+pub mod OdsLaws
+pub mod PcsLaws
+pub mod PdsLaws
+pub mod RecordLaws
+pub mod WdsLaws

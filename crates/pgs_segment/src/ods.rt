@@ -1,0 +1,178 @@
+// The body of an ODS: an object, or one fragment of it (01, module 3).
+use crate::fields::u8_at;
+use crate::fields::u16_at;
+use crate::fields::u24_at;
+use crate::segment::BodyList;
+use crate::segment::Checked;
+use pgs_base::refusal::Refusal;
+ghost use mathlib.Core.Path.{_≡_};
+ghost use Prim.Native.Nat.{_≤_};
+ghost use lib.ListN.{length};
+ghost use Rattle.pgs_base.specs.Outcome.{outcomeOf};
+ghost use Rattle.pgs_segment.specs.Checks.{checkedOutcome};
+ghost use Rattle.pgs_segment.specs.OdsBody.{
+  fragmentOf,
+  rawFragment,
+  isFirst,
+  isLast,
+  flagOf,
+  headSize,
+  dimensionsOf,
+  odsOf,
+  odsVerdict,
+  odsList,
+  odsOutcome,
+};
+
+// A view of the fragment flag's byte.
+pub enum FragmentFlag {
+    First,
+    Last,
+    FirstAndLast,
+    Other(u8),
+}
+
+// Width and height, which only a first fragment has.
+pub enum Dimensions {
+    Absent,
+    Present(u16, u16),
+}
+
+// The numbers of an ODS; its data stands in the body.
+pub struct Ods {
+    pub object_id: u16,
+    pub object_version_number: u8,
+    pub last_in_sequence_flag: u8,
+    pub object_data_length: u32,
+    pub dimensions: Dimensions,
+}
+
+// The numbers and where the data stands, or why there are none.
+pub enum OdsAnswer {
+    Fragment(Ods, BodyList),
+    Refused(Refusal),
+}
+
+impl FragmentFlag {
+    pub fn from_raw(v: u8) -> Self
+        ensures { λ r. ⌜ r ≡ fragmentOf v ⌝ }
+    {
+        match v {
+            0x80 => FragmentFlag::First,
+            0x40 => FragmentFlag::Last,
+            0xC0 => FragmentFlag::FirstAndLast,
+            _ => FragmentFlag::Other(v),
+        }
+    }
+
+    pub fn as_raw(self) -> u8
+        ensures { λ r. ⌜ r ≡ rawFragment self ⌝ }
+    {
+        match self {
+            FragmentFlag::First => 0x80,
+            FragmentFlag::Last => 0x40,
+            FragmentFlag::FirstAndLast => 0xC0,
+            FragmentFlag::Other(v) => v,
+        }
+    }
+
+    // Whether the fragment opens its object, and so has the dimensions.
+    pub fn is_first(self) -> bool
+        ensures { λ r. ⌜ r ≡ isFirst self ⌝ }
+    {
+        match self {
+            FragmentFlag::First => true,
+            FragmentFlag::Last => false,
+            FragmentFlag::FirstAndLast => true,
+            FragmentFlag::Other(_) => false,
+        }
+    }
+
+    // Whether the fragment closes its object.
+    pub fn is_last(self) -> bool
+        ensures { λ r. ⌜ r ≡ isLast self ⌝ }
+    {
+        match self {
+            FragmentFlag::First => false,
+            FragmentFlag::Last => true,
+            FragmentFlag::FirstAndLast => true,
+            FragmentFlag::Other(_) => false,
+        }
+    }
+}
+
+// How many bytes stand before the data, by the fragment flag.
+fn head_size(flag: u8) -> usize
+    ensures { λ r. ⌜ r ≡ headSize flag ⌝ }
+{
+    if FragmentFlag::from_raw(flag).is_first() {
+        11
+    } else {
+        7
+    }
+}
+
+// Whether the body is whole, and where its data stands.
+pub(crate) fn check_ods(body: &[u8]) -> Checked
+    ensures { λ r. ⌜ checkedOutcome r ≡ outcomeOf (odsVerdict (now (body .entry))) (odsList (now (body .entry))) ⌝ }
+{
+    if body.len() < 7 {
+        return Checked::Refused(Refusal::FieldPastEnd);
+    }
+    let start = head_size(u8_at(body, 3));
+    if body.len() < start {
+        return Checked::Refused(Refusal::FieldPastEnd);
+    }
+    Checked::List(BodyList {
+        count: 0,
+        start,
+        len: body.len() - start,
+    })
+}
+
+impl Ods {
+    // The dimensions of a body that is known to be whole.
+    fn dimensions(body: &[u8]) -> Dimensions
+        requires { ⌜ 7 ≤ length (now body) ⌝ }
+        requires { ⌜ headSize (flagOf (now body)) ≤ length (now body) ⌝ }
+        ensures { λ r. ⌜ r ≡ dimensionsOf (now (body .entry)) ⌝ }
+    {
+        if FragmentFlag::from_raw(u8_at(body, 3)).is_first() {
+            Dimensions::Present(u16_at(body, 7), u16_at(body, 9))
+        } else {
+            Dimensions::Absent
+        }
+    }
+
+    // The numbers of a body that is known to be whole.
+    pub(crate) fn numbers(body: &[u8]) -> Ods
+        requires { ⌜ 7 ≤ length (now body) ⌝ }
+        requires { ⌜ headSize (flagOf (now body)) ≤ length (now body) ⌝ }
+        ensures { λ r. ⌜ r ≡ odsOf (now (body .entry)) ⌝ }
+    {
+        Ods {
+            object_id: u16_at(body, 0),
+            object_version_number: u8_at(body, 2),
+            last_in_sequence_flag: u8_at(body, 3),
+            object_data_length: u24_at(body, 4),
+            dimensions: Ods::dimensions(body),
+        }
+    }
+
+    // A view of the fragment flag.
+    pub fn fragment(self) -> FragmentFlag
+        ensures { λ r. ⌜ r ≡ fragmentOf (self .«last_in_sequence_flag») ⌝ }
+    {
+        FragmentFlag::from_raw(self.last_in_sequence_flag)
+    }
+
+    // Reads a body; its data stays where it is.
+    pub fn parse(body: &[u8]) -> OdsAnswer
+        ensures { λ r. ⌜ odsOutcome r ≡ outcomeOf (odsVerdict (now (body .entry))) (odsOf (now (body .entry)), odsList (now (body .entry))) ⌝ }
+    {
+        match check_ods(body) {
+            Checked::Refused(why) => OdsAnswer::Refused(why),
+            Checked::List(data) => OdsAnswer::Fragment(Ods::numbers(body), data),
+        }
+    }
+}

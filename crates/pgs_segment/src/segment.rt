@@ -1,0 +1,18 @@
+// One segment: its head and its body (01, module 4).
+use pgs_base::refusal::Refusal;
+
+// The part of a body that holds its records (placements, windows, entries) or its data bytes.
+pub struct BodyList {
+    // how many records; 0 where the part holds data bytes
+    pub count: usize,
+    // the part's place in the body
+    pub start: usize,
+    // its length in bytes
+    pub len: usize,
+}
+
+// A body that was tested: where its list stands, or why it is refused.
+pub enum Checked {
+    List(BodyList),
+    Refused(Refusal),
+}

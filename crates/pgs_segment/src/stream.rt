@@ -1,0 +1,1 @@
+// The stream (01, module 4).
