@@ -35,6 +35,10 @@ pub first-holds : (k : ℕ) (t : Bool) (v : Verdict) → andThen (unless k t) v 
 first-holds k true v e = refl
 first-holds k false v e = cc
 
+pub first-accepts : (w v : Verdict) → andThen w v ≡ accepted → w ≡ accepted
+first-accepts accepted v e = refl
+first-accepts (refused k) v e = e
+
 pub second-holds : (w v : Verdict) → andThen w v ≡ accepted → v ≡ accepted
 second-holds accepted v e = e
 second-holds (refused k) v e = cc

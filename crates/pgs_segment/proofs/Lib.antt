@@ -3,4 +3,5 @@ pub mod OdsLaws
 pub mod PcsLaws
 pub mod PdsLaws
 pub mod RecordLaws
+pub mod SegmentLaws
 pub mod WdsLaws
