@@ -5,8 +5,8 @@ use Prim.Native.Nat.{ℕ, zero, suc, _+_, _*_, _^_, _-_, _≤_, _<_}
 use native.Mathlib.Nat.{add-suc}
 use native.Mathlib.Numerals.{add-one}
 use native.Mathlib.Omega.{arith}
-use lib.ListN.{length, take, drop, getD}
-use lib.Seq.{drop-cons}
+use lib.ListN.{length, take, drop, getD, length-drop, take-append-drop}
+use lib.Seq.{drop-cons, take-append-le, drop-append-le, length-take-le}
 use Rattle.pgs_base.specs.Bytes.{big, num}
 
 -- the w elements from place `at + i`, one by one
@@ -38,3 +38,13 @@ num-cells w at l h = ap big (sym (cells-are w at l h))
 -- a number of one byte is the byte
 pub num-byte : (at : ℕ) (l : List ℕ) → at < length l → getD l at 0 ≡ num 1 at l
 num-byte at l h = omega (arith, num-cells 1 at l (omega arith))
+
+-- a number depends on its own bytes alone
+pub num-append : (w at : ℕ) (xs ys : List ℕ) → at + w ≤ length xs → num w at (xs ++ ys) ≡ num w at xs
+unfolding num
+num-append w at xs ys h =
+    rw (drop-append-le at xs ys (omega arith), take-append-le w (drop at xs) ys (rw length-drop (omega arith)))
+
+pub num-take : (w at n : ℕ) (l : List ℕ) → at + w ≤ n → n ≤ length l → num w at (take n l) ≡ num w at l
+num-take w at n l h q =
+    sym (num-append w at (take n l) (drop n l) (rw (length-take-le n l q) h)) ∙ ap (num w at) (take-append-drop n l)

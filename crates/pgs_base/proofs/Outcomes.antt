@@ -5,7 +5,7 @@ use mathlib.Core.List.{List}
 use Prim.Native.Nat.{ℕ, _≤_, _<_}
 use borrow.Author.Tests.{le-leb, lt-leb}
 use lib.ListN.{length}
-use Rattle.pgs_base.specs.Outcome.{Verdict, accepted, refused, Outcome, gives, refuses, outcomeOf, andThen, unless, laid, Delivered}
+use Rattle.pgs_base.specs.Outcome.{Verdict, accepted, refused, Outcome, gives, refuses, outcomeOf, andThen, unless, isAccepted, laid, Delivered}
 
 module _ {X : Type 0} where
   -- values were given: the verdict accepts
@@ -46,6 +46,10 @@ second-holds (refused k) v e = cc
 pub holds : (k : ℕ) (t : Bool) → unless k t ≡ accepted → t ≡ true
 holds k true e = refl
 holds k false e = cc
+
+pub is-accepted : (v : Verdict) → isAccepted v ≡ true → v ≡ accepted
+is-accepted accepted e = refl
+is-accepted (refused k) e = cc
 
 module _ {A X : Type 0} {v : Verdict} {x : X} {new before : List A} where
   -- the input is refused

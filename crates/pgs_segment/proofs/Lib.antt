@@ -4,4 +4,5 @@ pub mod PcsLaws
 pub mod PdsLaws
 pub mod RecordLaws
 pub mod SegmentLaws
+pub mod StreamLaws
 pub mod WdsLaws

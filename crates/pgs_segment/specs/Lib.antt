@@ -7,4 +7,5 @@ pub mod OneSegment
 pub mod PcsBody
 pub mod PdsBody
 pub mod Records
+pub mod Stream
 pub mod WdsBody
