@@ -2,8 +2,8 @@
 
 use crate::compare::Tally;
 use crate::generate::*;
+use crate::run::unhex;
 use crate::segments::*;
-use crate::session::unhex;
 
 /// A PCS with a plane of 4 by 1 and no placement.
 const P: &str = "50470000000000000000 16 000B 0004 0001 10 0001 80 00 00 00";

@@ -7,14 +7,14 @@ mod lent;
 mod library;
 mod numbers;
 mod prng;
+mod run;
 mod segments;
-mod session;
 mod sheet;
 mod shrink;
 mod vast;
 
 use compare::Tally;
-use session::{unhex, Session};
+use run::{unhex, Run};
 use std::fs;
 use std::process::ExitCode;
 use std::time::Instant;
@@ -93,9 +93,9 @@ fn one(hex: &[&str], check: impl Fn(&[u8], &mut Tally) -> Result<(), String>) ->
 
 fn run_comparison(seed: u64, streams: usize) -> Result<(), String> {
     let began = Instant::now();
-    let mut session = Session::new(seed, streams);
-    session.run("segments", &segments::groups());
-    let tally = &session.tally;
+    let mut run = Run::new(seed, streams);
+    run.layer("segments", &segments::groups());
+    let tally = &run.tally;
     print!("{}", tally.answers());
     println!(
         "the same on {} streams and {} bodies, {} calls, seed {seed}, {} s",

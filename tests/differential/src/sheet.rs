@@ -5,8 +5,8 @@
 
 use crate::compare::Tally;
 use crate::numbers::number_of;
+use crate::run::unhex;
 use crate::segments;
-use crate::session::unhex;
 use published::pgs;
 
 const SHEET: &str = include_str!("../../../docs/REFUSALS.md");

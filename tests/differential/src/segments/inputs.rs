@@ -3,11 +3,11 @@
 use super::{check_body, check_stream};
 use crate::generate::*;
 use crate::prng::Prng;
-use crate::session::{Group, Session};
+use crate::run::{Group, Run};
 use crate::shrink::Form;
 
 pub fn groups() -> Vec<Group> {
-    let group = |name, run| Group { name, run };
+    let group = |name, inputs| Group { name, inputs };
     vec![
         group("every mark", every_mark),
         group("every input of up to 2 bytes", shortest),
@@ -28,85 +28,85 @@ pub fn groups() -> Vec<Group> {
     ]
 }
 
-fn stream(session: &mut Session, bytes: &[u8]) {
-    session.compare(Form::Stream, "stream", bytes, check_stream);
+fn stream(run: &mut Run, bytes: &[u8]) {
+    run.compare(Form::Stream, "stream", bytes, check_stream);
 }
 
-fn body(session: &mut Session, kind: u8, bytes: &[u8]) {
+fn body(run: &mut Run, kind: u8, bytes: &[u8]) {
     let command = format!("body {kind:02X}");
-    session.compare(Form::Bytes, &command, bytes, |b, tally| check_body(kind, b, tally));
+    run.compare(Form::Bytes, &command, bytes, |b, tally| check_body(kind, b, tally));
 }
 
-fn every_mark(session: &mut Session) {
+fn every_mark(run: &mut Run) {
     let mut head = plain(END, &[]);
     for mark in 0..=u16::MAX {
         head[..2].copy_from_slice(&mark.to_be_bytes());
-        stream(session, &head);
+        stream(run, &head);
     }
 }
 
-fn shortest(session: &mut Session) {
-    stream(session, &[]);
+fn shortest(run: &mut Run) {
+    stream(run, &[]);
     for first in 0..=255 {
-        stream(session, &[first]);
+        stream(run, &[first]);
         for second in 0..=255 {
-            stream(session, &[first, second]);
+            stream(run, &[first, second]);
         }
     }
 }
 
 /// Every announced size over 40 bytes of body.
-fn every_stored_size(session: &mut Session) {
+fn every_stored_size(run: &mut Run) {
     for kind in [PCS, WDS, PDS, ODS, END, 0x99] {
         for size in 0..=u16::MAX {
-            stream(session, &segment_of_size(kind, 1, 2, size, &[0; 40]));
+            stream(run, &segment_of_size(kind, 1, 2, size, &[0; 40]));
         }
     }
 }
 
-fn every_kind(session: &mut Session) {
-    let mut p = Prng::named(session.seed, "every kind");
+fn every_kind(run: &mut Run) {
+    let mut p = Prng::named(run.seed, "every kind");
     for kind in 0..=255 {
         for len in 0..=48 {
             for fill in [0x00, 0x01, 0x40, 0x80, 0xC0, 0xFF] {
-                stream(session, &plain(kind, &vec![fill; len]));
+                stream(run, &plain(kind, &vec![fill; len]));
             }
             let any = p.bytes(len);
-            stream(session, &plain(kind, &any));
-            stream(session, &segment_of_size(kind, 1, 2, len as u16 + 1, &any));
+            stream(run, &plain(kind, &any));
+            stream(run, &segment_of_size(kind, 1, 2, len as u16 + 1, &any));
         }
     }
 }
 
-fn every_state(session: &mut Session) {
-    let mut p = Prng::named(session.seed, "every state");
+fn every_state(run: &mut Run) {
+    let mut p = Prng::named(run.seed, "every state");
     let mut body = pcs_body(&mut p, 1);
     for state in 0..=255 {
         for update in 0..=255 {
             (body[7], body[8]) = (state, update);
-            stream(session, &plain(PCS, &body));
+            stream(run, &plain(PCS, &body));
         }
     }
 }
 
 /// Every crop flag of one placement; six flags in each of up to three; each body cut at every length, and with a tail.
-fn crops(session: &mut Session) {
-    let mut p = Prng::named(session.seed, "crops");
+fn crops(run: &mut Run) {
+    let mut p = Prng::named(run.seed, "crops");
     for flag in 0..=255 {
-        pcs_with_flags(session, &mut p, &[flag]);
+        pcs_with_flags(run, &mut p, &[flag]);
     }
     let flags = [0x00, 0x40, 0x41, 0x80, 0xC0, 0xFF];
     for a in flags {
         for b in flags {
-            pcs_with_flags(session, &mut p, &[a, b]);
+            pcs_with_flags(run, &mut p, &[a, b]);
             for c in flags {
-                pcs_with_flags(session, &mut p, &[a, b, c]);
+                pcs_with_flags(run, &mut p, &[a, b, c]);
             }
         }
     }
 }
 
-fn pcs_with_flags(session: &mut Session, p: &mut Prng, flags: &[u8]) {
+fn pcs_with_flags(run: &mut Run, p: &mut Prng, flags: &[u8]) {
     let mut whole = p.bytes(10);
     whole.push(flags.len() as u8);
     for flag in flags {
@@ -114,53 +114,53 @@ fn pcs_with_flags(session: &mut Session, p: &mut Prng, flags: &[u8]) {
     }
     whole.extend(p.bytes(17));
     for len in 0..=whole.len() {
-        stream(session, &plain(PCS, &whole[..len]));
+        stream(run, &plain(PCS, &whole[..len]));
     }
 }
 
-fn other_bodies(session: &mut Session) {
-    let mut p = Prng::named(session.seed, "other bodies");
+fn other_bodies(run: &mut Run) {
+    let mut p = Prng::named(run.seed, "other bodies");
     for count in 0..=255 {
         let mut windows = wds_body(&mut p, count);
         windows.push(0x77);
         let exact = windows.len() - 1;
         for len in [exact - 1, exact, exact + 1] {
-            stream(session, &plain(WDS, &windows[..len]));
+            stream(run, &plain(WDS, &windows[..len]));
         }
     }
     for len in 0..=1_300 {
-        stream(session, &plain(PDS, &p.bytes(len)));
+        stream(run, &plain(PDS, &p.bytes(len)));
     }
     for flag in 0..=255 {
         let fragment = ods_body(&mut p, flag, 13);
         for len in 0..=fragment.len() {
-            stream(session, &plain(ODS, &fragment[..len]));
+            stream(run, &plain(ODS, &fragment[..len]));
         }
     }
 }
 
-fn cuts(session: &mut Session) {
-    let mut p = Prng::named(session.seed, "cuts");
+fn cuts(run: &mut Run) {
+    let mut p = Prng::named(run.seed, "cuts");
     let mut whole = Vec::new();
     for kind in [PCS, WDS, PDS, ODS, 0x99, END] {
         whole.extend(plain(kind, &good_body(&mut p, kind)));
     }
     for len in 0..=whole.len() {
-        stream(session, &whole[..len]);
-        stream(session, &whole[len..]);
+        stream(run, &whole[..len]);
+        stream(run, &whole[len..]);
     }
     for good in [plain(END, &[]), plain(0x99, &[1, 2, 3]), whole] {
         for left_over in 1..=12 {
             for from in [plain(END, &[]), vec![0; 12], p.bytes(12)] {
-                stream(session, &[&good[..], &from[..left_over]].concat());
+                stream(run, &[&good[..], &from[..left_over]].concat());
             }
         }
     }
 }
 
 /// Short segments, good ones and one for each way to be refused, in every order of up to three.
-fn triples(session: &mut Session) {
-    let mut p = Prng::named(session.seed, "triples");
+fn triples(run: &mut Run) {
+    let mut p = Prng::named(run.seed, "triples");
     let mut shorts = vec![
         plain(END, &[]),
         plain(END, &[0]),
@@ -189,17 +189,17 @@ fn triples(session: &mut Session) {
     shorts.push(wrong_mark);
     for a in &shorts {
         for b in &shorts {
-            stream(session, &[&a[..], b].concat());
+            stream(run, &[&a[..], b].concat());
             for c in &shorts {
-                stream(session, &[&a[..], b, c].concat());
+                stream(run, &[&a[..], b, c].concat());
             }
         }
     }
 }
 
 /// Counts of 0, 254 and 255; bodies of 65,535 bytes of every kind, and a record more or less.
-fn limits(session: &mut Session) {
-    let mut p = Prng::named(session.seed, "limits");
+fn limits(run: &mut Run) {
+    let mut p = Prng::named(run.seed, "limits");
     for count in [0, 1, 254, 255] {
         for flag in [0x00, CROPPED] {
             let mut body = p.bytes(10);
@@ -207,101 +207,101 @@ fn limits(session: &mut Session) {
             for _ in 0..count {
                 body.extend(placement(&mut p, flag));
             }
-            around(session, &mut p, PCS, body);
+            around(run, &mut p, PCS, body);
         }
         let windows = wds_body(&mut p, count);
-        around(session, &mut p, WDS, windows);
+        around(run, &mut p, WDS, windows);
     }
     for kind in [PCS, WDS, PDS, ODS, END, 0x99] {
         for len in [65_531, 65_532, 65_533, 65_534, 65_535] {
-            stream(session, &plain(kind, &vec![0; len]));
-            stream(session, &[plain(kind, &p.bytes(len)), plain(END, &[])].concat());
+            stream(run, &plain(kind, &vec![0; len]));
+            stream(run, &[plain(kind, &p.bytes(len)), plain(END, &[])].concat());
         }
     }
     for flag in [0x00, 0x40, 0x80, 0xC0] {
         let fixed = ods_body(&mut p, flag, 0).len();
-        stream(session, &plain(ODS, &ods_body(&mut p, flag, 65_535 - fixed)));
+        stream(run, &plain(ODS, &ods_body(&mut p, flag, 65_535 - fixed)));
     }
     for entries in [0, 1, 255, 256, 257, 13_105, 13_106] {
-        stream(session, &plain(PDS, &pds_body(&mut p, entries)));
+        stream(run, &plain(PDS, &pds_body(&mut p, entries)));
     }
 }
 
 /// A body as it is, one byte short, with tails of several lengths, and announced one byte longer than it is.
-fn around(session: &mut Session, p: &mut Prng, kind: u8, body: Vec<u8>) {
-    stream(session, &plain(kind, &body));
-    stream(session, &plain(kind, &body[..body.len() - 1]));
-    stream(session, &segment_of_size(kind, 1, 2, body.len() as u16 + 1, &body));
+fn around(run: &mut Run, p: &mut Prng, kind: u8, body: Vec<u8>) {
+    stream(run, &plain(kind, &body));
+    stream(run, &plain(kind, &body[..body.len() - 1]));
+    stream(run, &segment_of_size(kind, 1, 2, body.len() as u16 + 1, &body));
     for tail in [1, 8, 9, 16, 300, 65_535 - body.len()] {
         let longer = [&body[..], &p.bytes(tail)].concat();
-        stream(session, &[plain(kind, &longer), plain(END, &[])].concat());
+        stream(run, &[plain(kind, &longer), plain(END, &[])].concat());
     }
 }
 
 /// Bodies that no head can announce, handed to the body readings alone.
-fn long_bodies(session: &mut Session) {
-    let mut p = Prng::named(session.seed, "long bodies");
+fn long_bodies(run: &mut Run) {
+    let mut p = Prng::named(run.seed, "long bodies");
     for len in [65_536, 65_537, 65_538, 65_542, 70_000, 131_072, 131_077] {
         for kind in [PCS, WDS, PDS, ODS] {
             for _ in 0..4 {
-                body(session, kind, &p.bytes(len));
+                body(run, kind, &p.bytes(len));
             }
         }
         let mut fragment = ods_body(&mut p, 0x80, 0);
         fragment.resize(len, 0x11);
-        body(session, ODS, &fragment);
+        body(run, ODS, &fragment);
     }
 }
 
-fn long_streams(session: &mut Session) {
+fn long_streams(run: &mut Run) {
     for segments in [65_535, 65_536, 65_537] {
         let mut many = plain(END, &[]).repeat(segments);
-        stream(session, &many);
+        stream(run, &many);
         many.push(0x50);
-        stream(session, &many);
+        stream(run, &many);
     }
     let large = plain(0x99, &[0x50; 65_535]);
-    stream(session, &large.repeat(300));
+    stream(run, &large.repeat(300));
 }
 
-fn random_bodies(session: &mut Session) {
-    let mut p = Prng::named(session.seed, "random bodies");
-    for _ in 0..session.streams / 2 {
+fn random_bodies(run: &mut Run) {
+    let mut p = Prng::named(run.seed, "random bodies");
+    for _ in 0..run.streams / 2 {
         let kind = p.pick(&[PCS, WDS, PDS, ODS]);
         let good = good_body(&mut p, kind);
         if p.once_in(2) {
-            body(session, kind, &good);
+            body(run, kind, &good);
         } else {
-            body(session, kind, &damaged(&mut p, &good));
+            body(run, kind, &damaged(&mut p, &good));
         }
     }
 }
 
-fn good_streams(session: &mut Session) {
-    let mut p = Prng::named(session.seed, "good streams");
-    for _ in 0..session.streams / 4 {
+fn good_streams(run: &mut Run) {
+    let mut p = Prng::named(run.seed, "good streams");
+    for _ in 0..run.streams / 4 {
         let good = good_stream(&mut p);
-        stream(session, &good);
+        stream(run, &good);
     }
 }
 
-fn damaged_streams(session: &mut Session) {
-    let mut p = Prng::named(session.seed, "damaged streams");
-    for _ in 0..session.streams / 2 {
+fn damaged_streams(run: &mut Run) {
+    let mut p = Prng::named(run.seed, "damaged streams");
+    for _ in 0..run.streams / 2 {
         let good = good_stream(&mut p);
-        stream(session, &damaged(&mut p, &good));
+        stream(run, &damaged(&mut p, &good));
     }
 }
 
-fn random_streams(session: &mut Session) {
-    let mut p = Prng::named(session.seed, "random streams");
-    for _ in 0..session.streams / 4 {
+fn random_streams(run: &mut Run) {
+    let mut p = Prng::named(run.seed, "random streams");
+    for _ in 0..run.streams / 4 {
         let mut bytes = Vec::new();
         for _ in 0..p.between(0, 4) {
             bytes.extend(good_segment(&mut p));
         }
         bytes.extend(random_segment(&mut p));
         bytes.extend(good_segment(&mut p));
-        stream(session, &bytes);
+        stream(run, &bytes);
     }
 }

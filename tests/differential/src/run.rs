@@ -5,7 +5,7 @@ use crate::shrink::{smallest, Form};
 use std::io::{self, Write};
 use std::{env, fs, process};
 
-pub struct Session {
+pub struct Run {
     pub seed: u64,
     /// How many random streams to make.
     pub streams: usize,
@@ -15,12 +15,12 @@ pub struct Session {
 /// Inputs of one sort.
 pub struct Group {
     pub name: &'static str,
-    pub run: fn(&mut Session),
+    pub inputs: fn(&mut Run),
 }
 
-impl Session {
+impl Run {
     pub fn new(seed: u64, streams: usize) -> Self {
-        Session { seed, streams, tally: Tally::default() }
+        Run { seed, streams, tally: Tally::default() }
     }
 
     /// Compares one input. A mismatch ends the run: it prints the smallest input found that shows one.
@@ -43,13 +43,13 @@ impl Session {
         process::exit(1);
     }
 
-    /// Runs the groups of a layer and prints how many inputs each compared.
-    pub fn run(&mut self, layer: &str, groups: &[Group]) {
+    /// Compares the groups of a layer and prints how many inputs each had.
+    pub fn layer(&mut self, name: &str, groups: &[Group]) {
         for group in groups {
             let (streams, bodies) = (self.tally.streams, self.tally.bodies);
-            print!("{layer}: {}: ", group.name);
+            print!("{name}: {}: ", group.name);
             io::stdout().flush().expect("standard output");
-            (group.run)(self);
+            (group.inputs)(self);
             println!("{} streams, {} bodies", self.tally.streams - streams, self.tally.bodies - bodies);
         }
     }
