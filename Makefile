@@ -1,0 +1,19 @@
+# The commands of this repository; the README says more of each.
+.PHONY: test check diff fmt
+
+# The gate: everything proved from nothing, must-fail edits, programs, the comparison with the published Rust.
+test:
+	.ci/run
+
+# The proofs of what changed.
+check:
+	rt check
+
+# The comparison alone; words for it in ARGS, as ARGS="stream 50 47 00 .."
+diff:
+	tests/differential/run $(ARGS)
+
+# The layout of the sources.
+fmt:
+	rt fmt
+	cargo fmt --all --manifest-path tests/differential/Cargo.toml

@@ -1,0 +1,185 @@
+/*
+ * PGS (Blu-ray bitmap subtitle) streams: the C interface of the proved library, for C and C++.
+ * Link target/staticlib/libpgs_c.a, which `rt staticlib pgs_c` writes (x86-64 Linux).
+ *
+ * Every function answers PGS_ACCEPTED (0), or the number of the refusal; docs/REFUSALS.md explains each.
+ * A refused call changes nothing: the records, the lists and the count are as they were before it. An accepted
+ * call writes the records that it answers, from the front of the list, and leaves the rest of the list as it was.
+ *
+ * A list is an array of records. A record is an array of numbers, its cells named by the constants below.
+ * The length of a list counts records, not cells and not bytes; a list may be longer than is needed, and a list
+ * that is exactly long enough is accepted. A list too short is PGS_BUFFER_TOO_SMALL, which is given only where no
+ * other refusal is. The input is only read. Nothing is allocated and nothing is kept after the call.
+ *
+ * What the caller owes, as for any C function: every pointer is valid, aligned for its type and not NULL, also
+ * where its length is 0; lengths are true; what is lent for writing overlaps neither the input nor other lent
+ * memory.
+ *
+ * Places and lengths are in bytes from 0. PTS and DTS are in ticks of 1/90,000 s. Widths, heights and positions
+ * are in pixels.
+ */
+#ifndef PGS_H
+#define PGS_H
+
+#include <stddef.h>
+#include <stdint.h>
+
+#ifdef __cplusplus
+extern "C" {
+#endif
+
+/* The answers. */
+enum {
+    PGS_ACCEPTED = 0,
+    PGS_TRUNCATED_HEADER = 1,
+    PGS_BAD_MAGIC = 2,
+    PGS_TRUNCATED_BODY = 3,
+    PGS_FIELD_PAST_END = 4,
+    PGS_PARTIAL_PALETTE_ENTRY = 5,
+    PGS_NON_EMPTY_END = 6,
+    PGS_BUFFER_TOO_SMALL = 34
+};
+
+/* Kinds of segments: the cell PGS_SEGMENT_KIND. Any other byte is an unknown kind, and is kept. */
+enum {
+    PGS_KIND_PDS = 0x14,
+    PGS_KIND_ODS = 0x15,
+    PGS_KIND_PCS = 0x16,
+    PGS_KIND_WDS = 0x17,
+    PGS_KIND_END = 0x80
+};
+
+/* One segment of a stream. */
+enum {
+    PGS_SEGMENT_PLACE,       /* where its head starts in the stream; its body starts 13 bytes later */
+    PGS_SEGMENT_PTS,
+    PGS_SEGMENT_DTS,
+    PGS_SEGMENT_KIND,        /* the kind's byte */
+    PGS_SEGMENT_BODY_LENGTH, /* as stored in the head, so with any bytes after the last counted record */
+    PGS_SEGMENT_CELLS
+};
+typedef uint64_t pgs_segment[PGS_SEGMENT_CELLS];
+
+/* A composition, without its placements. State and flag are the bytes as stored. */
+enum {
+    PGS_PCS_WIDTH,
+    PGS_PCS_HEIGHT,
+    PGS_PCS_FRAME_RATE,
+    PGS_PCS_COMPOSITION_NUMBER,
+    PGS_PCS_STATE,               /* 0x00 normal, 0x40 acquisition point, 0x80 epoch start, others kept */
+    PGS_PCS_PALETTE_UPDATE_FLAG, /* 0x80 means update, others kept */
+    PGS_PCS_PALETTE_ID,
+    PGS_PCS_CELLS
+};
+typedef uint16_t pgs_pcs[PGS_PCS_CELLS];
+
+/* One placement of a composition. */
+enum {
+    PGS_PLACEMENT_OBJECT_ID,
+    PGS_PLACEMENT_WINDOW_ID,
+    PGS_PLACEMENT_CROP_FLAG,    /* the byte as stored */
+    PGS_PLACEMENT_X,
+    PGS_PLACEMENT_Y,
+    PGS_PLACEMENT_CROP_PRESENT, /* 1 where the flag is exactly 0x40, else 0; the next four are 0 then */
+    PGS_PLACEMENT_CROP_X,
+    PGS_PLACEMENT_CROP_Y,
+    PGS_PLACEMENT_CROP_WIDTH,
+    PGS_PLACEMENT_CROP_HEIGHT,
+    PGS_PLACEMENT_CELLS
+};
+typedef uint16_t pgs_placement[PGS_PLACEMENT_CELLS];
+
+/* One window. */
+enum {
+    PGS_WINDOW_ID,
+    PGS_WINDOW_X,
+    PGS_WINDOW_Y,
+    PGS_WINDOW_WIDTH,
+    PGS_WINDOW_HEIGHT,
+    PGS_WINDOW_CELLS
+};
+typedef uint16_t pgs_window[PGS_WINDOW_CELLS];
+
+/* A palette, without its entries. */
+enum {
+    PGS_PDS_ID,
+    PGS_PDS_VERSION,
+    PGS_PDS_CELLS
+};
+typedef uint8_t pgs_pds[PGS_PDS_CELLS];
+
+/* One palette entry. */
+enum {
+    PGS_ENTRY_ID,
+    PGS_ENTRY_Y,
+    PGS_ENTRY_CR,
+    PGS_ENTRY_CB,
+    PGS_ENTRY_ALPHA,
+    PGS_ENTRY_CELLS
+};
+typedef uint8_t pgs_entry[PGS_ENTRY_CELLS];
+
+/* One fragment of an object. */
+enum {
+    PGS_ODS_OBJECT_ID,
+    PGS_ODS_VERSION,
+    PGS_ODS_FLAG,               /* the byte as stored: 0x80 first, 0x40 last, 0xC0 both, others in the middle */
+    PGS_ODS_DECLARED_LENGTH,
+    PGS_ODS_DIMENSIONS_PRESENT, /* 1 where the flag is 0x80 or 0xC0, else 0; the next two are 0 then */
+    PGS_ODS_WIDTH,
+    PGS_ODS_HEIGHT,
+    PGS_ODS_DATA_PLACE,         /* where the data starts in the body */
+    PGS_ODS_DATA_LENGTH,        /* from there to the end of the body */
+    PGS_ODS_CELLS
+};
+typedef uint64_t pgs_ods[PGS_ODS_CELLS];
+
+/*
+ * Reads a whole stream into the list of its segments, in order; count gets their number. Every body is read too,
+ * so that bodies of accepted streams are accepted by the functions below. An empty stream is accepted with 0.
+ * Refusals: 1 to 6, of the first segment that is refused, then 34.
+ */
+uint8_t pgs_parse_segments(const uint8_t *stream, size_t stream_length,
+                           pgs_segment *segments, size_t segments_length,
+                           uint64_t *count);
+
+/*
+ * Reads the body of a PCS into pcs and the list of its placements; count gets their number. Bytes after the last
+ * counted placement are passed over. A body may have any length.
+ * Refusals: 4, then 34.
+ */
+uint8_t pgs_parse_pcs(const uint8_t *body, size_t body_length,
+                      pgs_pcs *pcs,
+                      pgs_placement *placements, size_t placements_length,
+                      uint64_t *count);
+
+/*
+ * Reads the body of a WDS into the list of its windows; count gets their number. Bytes after the last counted
+ * window are passed over. A body may have any length.
+ * Refusals: 4, then 34.
+ */
+uint8_t pgs_parse_wds(const uint8_t *body, size_t body_length,
+                      pgs_window *windows, size_t windows_length,
+                      uint64_t *count);
+
+/*
+ * Reads the body of a PDS into pds and the list of its entries; count gets their number. A body may have any length.
+ * Refusals: 4, 5, then 34.
+ */
+uint8_t pgs_parse_pds(const uint8_t *body, size_t body_length,
+                      pgs_pds *pds,
+                      pgs_entry *entries, size_t entries_length,
+                      uint64_t *count);
+
+/*
+ * Reads the body of an ODS into ods. The data stays in the body. A body may have any length.
+ * Refusals: 4.
+ */
+uint8_t pgs_parse_ods(const uint8_t *body, size_t body_length,
+                      pgs_ods *ods);
+
+#ifdef __cplusplus
+}
+#endif
+
+#endif

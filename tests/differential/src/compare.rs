@@ -1,0 +1,120 @@
+//! One call of the library, held against what it should answer, lent memory included.
+
+use std::collections::BTreeMap;
+
+use crate::lent::{Lent, Record};
+use crate::library::Count;
+use crate::numbers::TOO_SHORT;
+use crate::prng::mix;
+
+/// What was compared so far.
+#[derive(Default)]
+pub struct Tally {
+    pub streams: u64,
+    pub bodies: u64,
+    pub calls: u64,
+    /// For each function, how often each number was the right answer; 0 is acceptance.
+    answers: BTreeMap<&'static str, BTreeMap<u8, u64>>,
+}
+
+impl Tally {
+    fn called(&mut self, function: &'static str, number: u8) {
+        self.calls += 1;
+        *self.answers.entry(function).or_default().entry(number).or_default() += 1;
+    }
+
+    /// A line for each function: how often it had to give each of its answers.
+    pub fn answers(&self) -> String {
+        let mut lines = String::new();
+        for (function, given) in &self.answers {
+            let each: Vec<String> =
+                given.iter().map(|(number, times)| format!("{number}: {times}")).collect();
+            lines += &format!("{function} answers {}\n", each.join(", "));
+        }
+        lines
+    }
+
+    /// A run that never came to one of a function's answers has not compared it.
+    pub fn met(&self, function: &'static str, numbers: &[u8]) -> Result<(), String> {
+        let given: Vec<u8> = self.answers.get(function).into_iter().flatten().map(|(n, _)| *n).collect();
+        if given == numbers {
+            return Ok(());
+        }
+        Err(format!("the answers of {function} should be {numbers:?}, the run came to {given:?}"))
+    }
+}
+
+/// What a call comes to where its list is long enough: the record beside the list, and the list; or a number.
+pub type Wanted<H, R> = Result<(H, Vec<R>), u8>;
+
+/// Lends lists of several lengths: none, one too short, exactly long enough, longer.
+/// `spare` is a length for calls that are refused whatever the list: some of it could have been filled.
+pub fn list_calls<H: Record, R: Record>(
+    tally: &mut Tally,
+    name: &'static str,
+    wanted: &Wanted<H, R>,
+    spare: usize,
+    call: impl Fn(&mut Lent<H>, &mut Lent<R>, &mut Lent<Count>) -> u8,
+) -> Result<(), String> {
+    let mut rooms = match wanted {
+        Ok((_, list)) => vec![0, list.len().saturating_sub(1), list.len(), list.len() + 2],
+        Err(_) => vec![0, spare],
+    };
+    rooms.dedup();
+    for room in rooms {
+        list_call(tally, name, wanted, room, &call)
+            .map_err(|what| format!("{name}, {room} records lent: {what}"))?;
+    }
+    Ok(())
+}
+
+/// One call with a list of `room` records.
+fn list_call<H: Record, R: Record>(
+    tally: &mut Tally,
+    name: &'static str,
+    wanted: &Wanted<H, R>,
+    room: usize,
+    call: impl Fn(&mut Lent<H>, &mut Lent<R>, &mut Lent<Count>) -> u8,
+) -> Result<(), String> {
+    let salt = mix(room as u64) >> 8;
+    let mut head = Lent::new(1, salt);
+    let mut list = Lent::new(room, salt + 7);
+    let mut count = Lent::new(1, salt + 99);
+    let answer = call(&mut head, &mut list, &mut count);
+    let (number, head_then, list_then, count_then): (u8, &[H], &[R], Option<Count>) = match wanted {
+        Ok((h, l)) if l.len() <= room => (0, std::slice::from_ref(h), l, Some([l.len() as u64])),
+        Ok(_) => (TOO_SHORT, &[], &[], None),
+        Err(refusal) => (*refusal, &[], &[], None),
+    };
+    tally.called(name, number);
+    same_number(answer, number)?;
+    head.holds("record", head_then)?;
+    list.holds("list", list_then)?;
+    count.holds("count", count_then.as_slice())
+}
+
+/// One call that answers a record and no list.
+pub fn record_call<H: Record>(
+    tally: &mut Tally,
+    name: &'static str,
+    wanted: &Result<H, u8>,
+    call: impl Fn(&mut Lent<H>) -> u8,
+) -> Result<(), String> {
+    let mut head = Lent::new(1, 5);
+    let answer = call(&mut head);
+    let (number, head_then): (u8, &[H]) = match wanted {
+        Ok(h) => (0, std::slice::from_ref(h)),
+        Err(refusal) => (*refusal, &[]),
+    };
+    tally.called(name, number);
+    same_number(answer, number)
+        .and_then(|()| head.holds("record", head_then))
+        .map_err(|what| format!("{name}: {what}"))
+}
+
+fn same_number(answer: u8, number: u8) -> Result<(), String> {
+    if answer == number {
+        return Ok(());
+    }
+    Err(format!("the library answers {answer}, it should be {number}"))
+}

@@ -1,0 +1,125 @@
+//! The library's C functions, as include/pgs.h declares them. Each answers 0 or a refusal's number.
+
+use crate::lent::{Input, Lent};
+
+/// Place, PTS, DTS, kind's byte, body length.
+pub type SegmentRecord = [u64; 5];
+/// Width, height, frame rate, composition number, state, palette update flag, palette id.
+pub type PcsRecord = [u16; 7];
+/// Object id, window id, crop flag, x, y, crop present, crop x, y, width, height.
+pub type PlacementRecord = [u16; 10];
+/// Id, x, y, width, height.
+pub type WindowRecord = [u16; 5];
+/// Id, version.
+pub type PdsRecord = [u8; 2];
+/// Id, Y, Cr, Cb, alpha.
+pub type EntryRecord = [u8; 5];
+/// Id, version, flag, declared length, dimensions present, width, height, place of the data, its length.
+pub type OdsRecord = [u64; 9];
+/// A number of records.
+pub type Count = [u64; 1];
+/// For calls that answer a list and nothing beside it.
+pub type Nothing = [u8; 0];
+
+mod c {
+    use super::*;
+
+    extern "C" {
+        pub fn pgs_parse_segments(
+            stream: *const u8,
+            stream_len: usize,
+            segments: *mut SegmentRecord,
+            segments_len: usize,
+            count: *mut Count,
+        ) -> u8;
+        pub fn pgs_parse_pcs(
+            body: *const u8,
+            body_len: usize,
+            pcs: *mut PcsRecord,
+            placements: *mut PlacementRecord,
+            placements_len: usize,
+            count: *mut Count,
+        ) -> u8;
+        pub fn pgs_parse_wds(
+            body: *const u8,
+            body_len: usize,
+            windows: *mut WindowRecord,
+            windows_len: usize,
+            count: *mut Count,
+        ) -> u8;
+        pub fn pgs_parse_pds(
+            body: *const u8,
+            body_len: usize,
+            pds: *mut PdsRecord,
+            entries: *mut EntryRecord,
+            entries_len: usize,
+            count: *mut Count,
+        ) -> u8;
+        pub fn pgs_parse_ods(body: *const u8, body_len: usize, ods: *mut OdsRecord) -> u8;
+    }
+}
+
+pub fn parse_segments(
+    stream: &Input,
+    _: &mut Lent<Nothing>,
+    segments: &mut Lent<SegmentRecord>,
+    count: &mut Lent<Count>,
+) -> u8 {
+    parse_segments_at(stream.pointer(), stream.len(), segments, count)
+}
+
+/// The same for a stream that is too long to be copied.
+pub fn parse_segments_at(
+    stream: *const u8,
+    stream_len: usize,
+    segments: &mut Lent<SegmentRecord>,
+    count: &mut Lent<Count>,
+) -> u8 {
+    let len = segments.len();
+    unsafe { c::pgs_parse_segments(stream, stream_len, segments.pointer(), len, count.pointer()) }
+}
+
+pub fn parse_pcs(
+    body: &Input,
+    pcs: &mut Lent<PcsRecord>,
+    placements: &mut Lent<PlacementRecord>,
+    count: &mut Lent<Count>,
+) -> u8 {
+    let len = placements.len();
+    unsafe {
+        c::pgs_parse_pcs(
+            body.pointer(),
+            body.len(),
+            pcs.pointer(),
+            placements.pointer(),
+            len,
+            count.pointer(),
+        )
+    }
+}
+
+pub fn parse_wds(
+    body: &Input,
+    _: &mut Lent<Nothing>,
+    windows: &mut Lent<WindowRecord>,
+    count: &mut Lent<Count>,
+) -> u8 {
+    let len = windows.len();
+    unsafe { c::pgs_parse_wds(body.pointer(), body.len(), windows.pointer(), len, count.pointer()) }
+}
+
+pub fn parse_pds(
+    body: &Input,
+    pds: &mut Lent<PdsRecord>,
+    entries: &mut Lent<EntryRecord>,
+    count: &mut Lent<Count>,
+) -> u8 {
+    let len = entries.len();
+    unsafe {
+        c::pgs_parse_pds(body.pointer(), body.len(), pds.pointer(), entries.pointer(), len, count.pointer())
+    }
+}
+
+pub fn parse_ods(body: &Input, ods: &mut Lent<OdsRecord>) -> u8 {
+    unsafe { c::pgs_parse_ods(body.pointer(), body.len(), ods.pointer()) }
+}

@@ -1,0 +1,80 @@
+//! A run: its seed, what it has compared, and what it does at a mismatch.
+
+use crate::compare::Tally;
+use crate::shrink::{smallest, Form};
+use std::io::{self, Write};
+use std::{env, fs, process};
+
+pub struct Run {
+    pub seed: u64,
+    /// How many random streams to make.
+    pub streams: usize,
+    pub tally: Tally,
+}
+
+/// Inputs of one sort.
+pub struct Group {
+    pub name: &'static str,
+    pub inputs: fn(&mut Run),
+}
+
+impl Run {
+    pub fn new(seed: u64, streams: usize) -> Self {
+        Run { seed, streams, tally: Tally::default() }
+    }
+
+    /// Compares one input. A mismatch ends the run: it prints the smallest input found that shows one.
+    /// `command` is how the program is told to compare that input again.
+    pub fn compare(
+        &mut self,
+        form: Form,
+        command: &str,
+        input: &[u8],
+        check: impl Fn(&[u8], &mut Tally) -> Result<(), String>,
+    ) {
+        let Err(found) = check(input, &mut self.tally) else { return };
+        let mut unused = Tally::default();
+        let small = smallest(form, input, |smaller| check(smaller, &mut unused).is_err());
+        let shown = check(&small, &mut unused).err().unwrap_or_else(|| found.clone());
+        println!("\nMISMATCH (seed {})", self.seed);
+        println!("  found on {} bytes: {found}", input.len());
+        println!("  smallest input found, {} bytes: {shown}", small.len());
+        println!("  to compare it again: tests/differential/run {command} {}", shown_input(&small));
+        process::exit(1);
+    }
+
+    /// Compares the groups of a layer and prints how many inputs each had.
+    pub fn layer(&mut self, name: &str, groups: &[Group]) {
+        for group in groups {
+            let (streams, bodies) = (self.tally.streams, self.tally.bodies);
+            print!("{name}: {}: ", group.name);
+            io::stdout().flush().expect("standard output");
+            (group.inputs)(self);
+            println!("{} streams, {} bodies", self.tally.streams - streams, self.tally.bodies - bodies);
+        }
+    }
+}
+
+/// The input in hexadecimal; a long one goes into a file beside the program.
+fn shown_input(bytes: &[u8]) -> String {
+    let hex: String = bytes.iter().map(|b| format!("{b:02X}")).collect();
+    if bytes.len() <= 4_096 {
+        return hex;
+    }
+    let file = env::current_exe().unwrap_or_default().with_file_name("mismatch.hex");
+    match fs::write(&file, &hex) {
+        Ok(()) => format!("@{}", file.display()),
+        Err(_) => hex,
+    }
+}
+
+/// Bytes from hexadecimal digits; white space between them is allowed.
+pub fn unhex(text: &str) -> Option<Vec<u8>> {
+    let digits: Vec<u32> =
+        text.chars().filter(|c| !c.is_whitespace()).map(|c| c.to_digit(16)).collect::<Option<_>>()?;
+    let pairs = digits.chunks_exact(2);
+    if !pairs.remainder().is_empty() {
+        return None;
+    }
+    Some(pairs.map(|pair| (16 * pair[0] + pair[1]) as u8).collect())
+}
