@@ -5,7 +5,7 @@ use mathlib.Core.List.{List}
 use Prim.Native.Nat.{ℕ, _≤_, _<_}
 use borrow.Author.Tests.{le-leb, lt-leb}
 use lib.ListN.{length}
-use Rattle.pgs_base.specs.Outcome.{Verdict, accepted, refused, Outcome, gives, refuses, outcomeOf, andThen, unless, isAccepted, laid, Delivered}
+use Rattle.pgs_base.specs.Outcome.{Verdict, accepted, refused, Outcome, gives, refuses, outcomeOf, andThen, unless, isAccepted, laid, delivery, Delivered}
 
 module _ {X : Type 0} where
   -- values were given: the verdict accepts
@@ -64,3 +64,13 @@ module _ {A X : Type 0} {v : Verdict} {x : X} {new before : List A} where
   pub delivers-all : {after : List A} {y : X} → v ≡ accepted → length new ≤ length before → y ≡ x → after ≡ laid accepted new before
       → Delivered v x new before after (gives y)
   delivers-all e h q w = record { answered = simp (e, le-leb _ _ h) (ap gives q); written = simp (e, le-leb _ _ h) w }
+
+  -- what the answer of such a call tells
+  pub delivered-refusal : {after : List A} {k : ℕ} → Delivered v x new before after (refuses k) → delivery v new before ≡ refused k
+  delivered-refusal d = turned-down (delivery v new before) x (d .answered)
+
+  pub delivered : {after : List A} {y : X} → Delivered v x new before after (gives y) → delivery v new before ≡ accepted
+  delivered d = gave (delivery v new before) x (d .answered)
+
+  pub delivered-value : {after : List A} {y : X} → Delivered v x new before after (gives y) → y ≡ x
+  delivered-value d = gave-value (delivery v new before) x (d .answered)

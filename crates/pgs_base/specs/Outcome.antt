@@ -50,8 +50,12 @@ abbrev pub laid : {A : Type 0} → Verdict → List A → List A → List A
 laid accepted new old = new ++ drop (length new) old
 laid (refused k) new old = old
 
--- what a call promises that reads input of this verdict, answers `value` and writes `new` to the front of a lent list or buffer,
--- which held `before` and holds `after`. 01: "Everywhere else 34 is last"; the need is the length of what is written
+-- the verdict of a call that writes `new` to the front of a lent list or buffer that holds `before`. 01: "Everywhere else 34 is
+-- last"; the need is the length of what is written
+abbrev pub delivery : {A : Type 0} → Verdict → List A → List A → Verdict
+delivery verdict new before = andThen verdict (needing (length new) (length before))
+
+-- what such a call promises: it reads input of this verdict and answers `value`; the list or buffer then holds `after`
 pub record Delivered {A X : Type 0} (verdict : Verdict) (value : X) (new before after : List A) (answer : Outcome X) : Type 0 where
-  pub answered : answer ≡ outcomeOf (andThen verdict (needing (length new) (length before))) value
-  pub written : after ≡ laid (andThen verdict (needing (length new) (length before))) new before
+  pub answered : answer ≡ outcomeOf (delivery verdict new before) value
+  pub written : after ≡ laid (delivery verdict new before) new before
