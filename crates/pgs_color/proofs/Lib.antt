@@ -1,1 +1,5 @@
 pub mod Clamping
+pub mod Difference
+pub mod Grid
+pub mod Terms
+pub mod Accuracy

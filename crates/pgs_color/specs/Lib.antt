@@ -1,2 +1,4 @@
 pub mod Sums
 pub mod Bytes
+pub mod Exact
+pub mod Accuracy
