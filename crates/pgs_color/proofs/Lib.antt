@@ -3,3 +3,5 @@ pub mod Difference
 pub mod Grid
 pub mod Terms
 pub mod Accuracy
+pub mod Laying
+pub mod Calls
