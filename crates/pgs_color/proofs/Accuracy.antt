@@ -136,8 +136,8 @@ minus-channel {x} {y} {w} t u v =
 
 -- ---- the exact values as differences
 
-luma-is : (y : ℕ) → Difference.Is (exactLuma decimals y) (255 * 224 * 10000 * y) (255 * 224 * 10000 * 16)
-luma-is y = Difference.scaled (255 * 224 * 10000) (Difference.of-sub y 16)
+luma-is : (y : ℕ) → Difference.Is (exactLuma decimals y) (255 * 224 * decimals .over * y) (255 * 224 * decimals .over * 16)
+luma-is y = Difference.scaled (255 * 224 * decimals .over) (Difference.of-sub y 16)
 
 chroma-is : (k c : ℕ) → Difference.Is (exactChroma k c) (255 * 219 * k * c) (255 * 219 * k * 128)
 chroma-is k c = Difference.scaled (255 * 219 * k) (Difference.of-sub c 128)
@@ -147,9 +147,9 @@ chroma-is k c = Difference.scaled (255 * 219 * k) (Difference.of-sub c 128)
 pub accurate : Accurate rgbOf
 accurate y cb cr hy hb hr =
     record {
-      red = within (plus-channel (luma-term y hy) (red-cr cr hr)) (Difference.plus (luma-is y) (chroma-is 15748 cr));
+      red = within (plus-channel (luma-term y hy) (red-cr cr hr)) (Difference.plus (luma-is y) (chroma-is (decimals .redCr) cr));
       green =
           within (minus-channel (luma-term y hy) (green-cb cb hb) (green-cr cr hr))
-          (Difference.minus (Difference.minus (luma-is y) (chroma-is 1873 cb)) (chroma-is 4681 cr));
-      blue = within (plus-channel (luma-term y hy) (blue-cb cb hb)) (Difference.plus (luma-is y) (chroma-is 18556 cb));
+          (Difference.minus (Difference.minus (luma-is y) (chroma-is (decimals .greenCb) cb)) (chroma-is (decimals .greenCr) cr));
+      blue = within (plus-channel (luma-term y hy) (blue-cb cb hb)) (Difference.plus (luma-is y) (chroma-is (decimals .blueCb) cb));
     }

@@ -106,43 +106,49 @@ term-of (fin s m e) p q t = term-at s m e (m * up e * 2 ^ 26 / down e) p q t
 
 -- ---- the five terms: (Y - 16) · 255 · 224 · 10000, and k · (C - 128) · 255 · 219 for each decimal
 
-luma-tests : T (all (λ y. tested (luma y) (255 * 224 * 10000 * y) (255 * 224 * 10000 * 16)) 256)
+luma-tests : T (all (λ y. tested (luma y) (255 * 224 * decimals .over * y) (255 * 224 * decimals .over * 16)) 256)
 unfolding mul sub div ofInt
 luma-tests = tt
 
-pub luma-term : (y : ℕ) → y < 256 → Term (luma y) (255 * 224 * 10000 * y) (255 * 224 * 10000 * 16)
-luma-term y h = term-of (luma y) _ _ (all-below (λ y. tested (luma y) (255 * 224 * 10000 * y) (255 * 224 * 10000 * 16)) 256 luma-tests y h)
+pub luma-term : (y : ℕ) → y < 256 → Term (luma y) (255 * 224 * decimals .over * y) (255 * 224 * decimals .over * 16)
+luma-term y h =
+    term-of (luma y) _ _ (all-below (λ y. tested (luma y) (255 * 224 * decimals .over * y) (255 * 224 * decimals .over * 16)) 256 luma-tests y h)
 
-abbrev chromaTest : ℕ → ℕ → Bool
-chromaTest k c = tested (chroma (decimal k) c) (255 * 219 * k * c) (255 * 219 * k * 128)
+-- d is the float of a decimal, k the decimal's whole number
+abbrev chromaTest : Float → ℕ → ℕ → Bool
+chromaTest d k c = tested (chroma d c) (255 * 219 * k * c) (255 * 219 * k * 128)
 
-chroma-term : (k : ℕ) → T (all (chromaTest k) 256) → (c : ℕ) → c < 256 → Term (chroma (decimal k) c) (255 * 219 * k * c) (255 * 219 * k * 128)
-chroma-term k t c h = term-of (chroma (decimal k) c) _ _ (all-below (chromaTest k) 256 t c h)
+chroma-term : (d : Float) (k : ℕ) → T (all (chromaTest d k) 256) → (c : ℕ) → c < 256 → Term (chroma d c) (255 * 219 * k * c) (255 * 219 * k * 128)
+chroma-term d k t c h = term-of (chroma d c) _ _ (all-below (chromaTest d k) 256 t c h)
 
-red-cr-tests : T (all (chromaTest 15748) 256)
+red-cr-tests : T (all (chromaTest (decimal 15748) (decimals .redCr)) 256)
 unfolding mul sub div ofInt
 red-cr-tests = tt
 
-green-cb-tests : T (all (chromaTest 1873) 256)
+green-cb-tests : T (all (chromaTest (decimal 1873) (decimals .greenCb)) 256)
 unfolding mul sub div ofInt
 green-cb-tests = tt
 
-green-cr-tests : T (all (chromaTest 4681) 256)
+green-cr-tests : T (all (chromaTest (decimal 4681) (decimals .greenCr)) 256)
 unfolding mul sub div ofInt
 green-cr-tests = tt
 
-blue-cb-tests : T (all (chromaTest 18556) 256)
+blue-cb-tests : T (all (chromaTest (decimal 18556) (decimals .blueCb)) 256)
 unfolding mul sub div ofInt
 blue-cb-tests = tt
 
-pub red-cr : (c : ℕ) → c < 256 → Term (chroma (decimal 15748) c) (255 * 219 * 15748 * c) (255 * 219 * 15748 * 128)
-red-cr c h = chroma-term 15748 red-cr-tests c h
+-- the exact value of a term of chroma
+abbrev ChromaTerm : ℕ → ℕ → ℕ → Type 0
+ChromaTerm n k c = Term (chroma (decimal n) c) (255 * 219 * k * c) (255 * 219 * k * 128)
 
-pub green-cb : (c : ℕ) → c < 256 → Term (chroma (decimal 1873) c) (255 * 219 * 1873 * c) (255 * 219 * 1873 * 128)
-green-cb c h = chroma-term 1873 green-cb-tests c h
+pub red-cr : (c : ℕ) → c < 256 → ChromaTerm 15748 (decimals .redCr) c
+red-cr = chroma-term (decimal 15748) (decimals .redCr) red-cr-tests
 
-pub green-cr : (c : ℕ) → c < 256 → Term (chroma (decimal 4681) c) (255 * 219 * 4681 * c) (255 * 219 * 4681 * 128)
-green-cr c h = chroma-term 4681 green-cr-tests c h
+pub green-cb : (c : ℕ) → c < 256 → ChromaTerm 1873 (decimals .greenCb) c
+green-cb = chroma-term (decimal 1873) (decimals .greenCb) green-cb-tests
 
-pub blue-cb : (c : ℕ) → c < 256 → Term (chroma (decimal 18556) c) (255 * 219 * 18556 * c) (255 * 219 * 18556 * 128)
-blue-cb c h = chroma-term 18556 blue-cb-tests c h
+pub green-cr : (c : ℕ) → c < 256 → ChromaTerm 4681 (decimals .greenCr) c
+green-cr = chroma-term (decimal 4681) (decimals .greenCr) green-cr-tests
+
+pub blue-cb : (c : ℕ) → c < 256 → ChromaTerm 18556 (decimals .blueCb) c
+blue-cb = chroma-term (decimal 18556) (decimals .blueCb) blue-cb-tests

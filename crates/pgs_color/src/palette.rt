@@ -31,7 +31,7 @@ pub enum Looked {
 }
 
 // Bytes of a table.
-const TABLE_LEN: usize = 1024;
+pub const TABLE_LEN: usize = 1024;
 
 fn wide(x: u8) -> usize
     ensures { λ r. ⌜ (r ≡ x) × (r < 256) ⌝ }
@@ -84,10 +84,10 @@ pub fn clear(table: &mut [u8]) -> Updated
     if table.len() < TABLE_LEN {
         return Updated::Refused(Refusal::BufferTooSmall);
     }
-    let mut k: usize = 0;
-    while k < TABLE_LEN {
-        table[k] = 0;
-        k += 1;
+    let mut i: usize = 0;
+    while i < TABLE_LEN {
+        table[i] = 0;
+        i += 1;
     }
     Updated::Done
 }
