@@ -1,25 +1,24 @@
 -- The accuracy rule holds for all Y, Cb and Cr: each byte of the conversion lies within 1/2 + 1/1000 of the exact value, clamped to 0..255.
 -- The route: each term is near its exact value (Terms), each sum is off by one rounding more (Grid), and the byte by one half and a rounding.
 -- Assumes nothing.
-use mathlib.Core.Path.{_≡_, refl, sym, ap, _∙_, subst}
+use mathlib.Core.Path.{_≡_, refl, sym, subst}
 use mathlib.Core.Bool.{Bool, true, false}
-use Prim.Native.Nat.{ℕ, zero, suc, _+_, _-_, _*_, _/_, _^_, _≤_, _<_, min, max}
-use native.Mathlib.Nat.{zero-mul, lt-irrefl, mul-assoc, mul-comm, mul-right-comm, mul-le-mul-right, le-of-mul-le-mul-right, mul-lt-mul-of-pos-right, lt-of-mul-lt-mul-right}
+use Prim.Native.Nat.{ℕ, _+_, _-_, _*_, _/_, _^_, _≤_, _<_, min, max}
+use native.Mathlib.Nat.{zero-mul, lt-irrefl, mul-assoc, le-of-mul-le-mul-right, lt-of-mul-lt-mul-right}
 use native.Mathlib.Omega.{arith}
 use borrow.Author.Tests.{leb-true, leb-false}
-use lib.Dec.{T, leb, lit<}
-use lib.IntN.{ℤ, pos, negsuc}
-use lib.Ieee.{Float, nan, inf, fin, binary32, up, down, round, add, sub, le, toUnsigned}
+use lib.Dec.{leb, lit<}
+use lib.IntN.{ℤ}
+use lib.Ieee.{Float, nan, inf, fin, binary32, up, down, round, add, sub, toUnsigned}
 use lib.Ieee.Fits.{down-pos}
 use lib.Ieee.Nearest.{div-same}
 use Rattle.pgs_base.specs.Outcome.{pick}
-use Rattle.pgs_color.specs.Sums.{whole, decimal, luma, chroma, redSum, greenSum, blueSum}
 use Rattle.pgs_color.specs.Bytes.{half, byteOf, rgbOf}
-use Rattle.pgs_color.specs.Exact.{decimals, exactLuma, exactChroma, exactRed, exactGreen, exactBlue}
+use Rattle.pgs_color.specs.Exact.{decimals, exactLuma, exactChroma}
 use Rattle.pgs_color.specs.Accuracy.{clamped, Within, tolerance, Accurate}
 use Rattle.pgs_color.proofs.Clamping.{zero-test, top-test, zero-test-neg}
 use Rattle.pgs_color.proofs.Difference as Difference
-use Rattle.pgs_color.proofs.Grid.{Place, At, own-place, Landed, add-at, sub-at}
+use Rattle.pgs_color.proofs.Grid.{At, own-place, add-at, sub-at}
 use Rattle.pgs_color.proofs.Terms.{scale, Term, luma-term, red-cr, green-cb, green-cr, blue-cb}
 
 -- ---- the byte of a float at a place
@@ -102,7 +101,8 @@ byte-at (fin true m e) n p =
     subst (λ (b : ℕ). ByteAt n b) (sym is) (record { notAbove = omega arith; notBelow = omega arith })
 byte-at (fin false m e) n p = byte-of-fin m e n p
 
--- ---- a channel: a float near an exact value (p - q) / scale
+-- ---- a channel: a float near an exact value (p - q) / scale. It has at most three terms, each off by at most 2,300 units of 2^-26, and two
+-- roundings, each off by at most 2^12 of them: 15,092 together.
 
 record Channel (v : Float) (p q : ℕ) : Type 0 where
   place : ℕ

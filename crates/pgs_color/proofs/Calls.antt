@@ -1,13 +1,12 @@
 -- Calls over a lent palette table: a short one is refused with 34 and left as it was, any other is changed.
 -- Assumes nothing.
-use mathlib.Core.Path.{_≡_, refl, sym, ap, _∙_}
-use mathlib.Core.Bool.{Bool, true, false}
+use mathlib.Core.Path.{_≡_, sym, ap, _∙_}
+use mathlib.Core.Bool.{Bool}
 use mathlib.Core.List.{List}
 use Prim.Native.Nat.{ℕ, _<_, _≤_}
 use borrow.Author.Tests.{le-leb, lt-leb}
-use lib.Dec.{leb}
 use lib.ListN.{length}
-use Rattle.pgs_base.specs.Outcome.{Verdict, accepted, refused, unless, Outcome, gives, refuses, outcomeOf, pick}
+use Rattle.pgs_base.specs.Outcome.{accepted, refused, unless, gives, refuses, outcomeOf, pick}
 use Rattle.pgs_color.specs.Table.{holds, Updates}
 
 pub short : (change : List ℕ → List ℕ) (t : List ℕ) → length t < 1024 → Updates change (refused 34) t t

@@ -4,15 +4,14 @@
 -- Assumes nothing.
 use mathlib.Core.Path.{_≡_, refl, sym, ap, _∙_, subst}
 use mathlib.Core.Bool.{Bool, true, false, not, _&&_, Bool·beq, cond}
-use mathlib.Core.Logic.{inl, inr}
-use Prim.Native.Nat.{ℕ, zero, suc, _+_, _-_, _*_, _/_, _%_, _^_, _≤_, _<_, compare}
-use native.Mathlib.Nat.{suc-mul, mul-sub, eq-of-mul-eq-mul-right, mul-comm, mul-assoc, mul-left-comm, mul-right-comm, mul-one, add-mul, mul-pos, lt-of-lt-of-le, lt-of-not-le, not-le-of-lt, le-trans, le-of-eq, mul-le-mul-right, mul-lt-mul-of-pos-right, lt-of-mul-lt-mul-right, le-of-mul-le-mul-right, le-of-suc-le-suc, div-add-mod', mod-lt, mul-div-cancel}
+use Prim.Native.Nat.{ℕ, suc, _+_, _-_, _*_, _/_, _%_, _^_, _≤_, _<_, compare}
+use native.Mathlib.Nat.{suc-mul, mul-sub, eq-of-mul-eq-mul-right, mul-comm, mul-assoc, mul-right-comm, add-mul, mul-pos, lt-of-lt-of-le, lt-of-not-le, not-le-of-lt, mul-le-mul-right, mul-lt-mul-of-pos-right, lt-of-mul-lt-mul-right, le-of-mul-le-mul-right, div-add-mod', mod-lt, mul-div-cancel}
 use native.Mathlib.Omega.{arith}
 use borrow.Author.Tests.{ltb-true, ltb-false, lt-ltb, le-ltb}
-use lib.Dec.{T, leb, ltb, eqb, lit<, lit≤, ltb→lt, nltb→le}
-use lib.IntN.{ℤ, pos, negsuc}
+use lib.Dec.{T, ltb, lit<, lit≤, ltb→lt, nltb→le}
+use lib.IntN.{ℤ}
 use lib.Pow.{pow-add, pow-pos, pow-mono, shl-lt}
-use lib.Ieee.{Float, nan, inf, fin, Format, binary32, low, emax, prec, up, down, size, nearest, units, round, sum, add, sub, neg}
+use lib.Ieee.{Float, nan, inf, fin, Format, binary32, low, emax, up, down, size, units, round, sum, add, sub, neg}
 use lib.Ieee.Digits.{size-lt, size-le}
 use lib.Ieee.Fits.{down-pos, nearest-le, round-is}
 use lib.Ieee.Exact.{HasValue, units-val, round-exact}

@@ -1,15 +1,15 @@
 -- The five terms of the sums, each a function of one byte: at each of the 256 bytes the float is near the exact term, by one computed test
 -- for each term and one law that turns the test into the rule.
 -- Assumes nothing.
-use mathlib.Core.Path.{_≡_, refl, sym, ap, _∙_, subst}
-use mathlib.Core.Bool.{Bool, true, false, not, _&&_, cond}
+use mathlib.Core.Path.{refl, sym, subst}
+use mathlib.Core.Bool.{Bool, true, false, _&&_}
 use mathlib.Core.Logic.{inl, inr}
 use Prim.Native.Nat.{ℕ, zero, suc, _+_, _-_, _*_, _/_, _^_, _≤_, _<_}
 use native.Mathlib.Nat.{eq-or-lt-of-le, le-of-suc-le-suc, not-suc-le-zero}
 use native.Mathlib.Omega.{arith}
-use lib.Dec.{T, leb, ltb, eqb, leb→le, eqb→eq}
-use lib.IntN.{ℤ, pos, negsuc}
-use lib.Ieee.{Float, nan, inf, fin, up, down, sub, mul, div, ofInt, round}
+use lib.Dec.{T, leb, eqb, leb→le, eqb→eq}
+use lib.IntN.{ℤ}
+use lib.Ieee.{Float, nan, inf, fin, up, down, sub, mul, div, ofInt}
 use lib.Ieee.Fits.{and-l, and-r}
 use Rattle.pgs_color.specs.Sums.{decimal, luma, chroma}
 use Rattle.pgs_color.specs.Exact.{decimals, scaleOf}

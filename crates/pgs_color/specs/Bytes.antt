@@ -1,7 +1,6 @@
 -- The byte of a channel sum. 01, 'Colour': "At or below 0 gives 0; at or above 255 gives 255; else add 0.5 in f32 and drop the fraction."
 use Prim.Native.Nat.{ℕ}
 use mathlib.Core.Bool.{false}
-use lib.IntN.{pos}
 use lib.Ieee.{Float, binary32, round, add, le, toUnsigned}
 use Rattle.pgs_base.specs.Outcome.{pick}
 use Rattle.pgs_color.specs.Sums.{whole, sumsOf}

@@ -7,7 +7,7 @@ use mathlib.Core.Bool.{Bool}
 use lib.Dec.{leb}
 use lib.ListN.{length, getD, take, drop, replicate}
 use Rattle.pgs_base.specs.Refusals.{numberOf}
-use Rattle.pgs_base.specs.Outcome.{Verdict, accepted, refused, unless, Outcome, gives, refuses, outcomeOf, pick}
+use Rattle.pgs_base.specs.Outcome.{Verdict, accepted, refused, unless, Outcome, gives, refuses, pick}
 use Rattle.pgs_color.specs.Palette.{Entry, lookup, Conversion, colorOf, entryOr}
 use Rattle.pgs_color.specs.declared.palette.Rgba8.{Rgba8}
 use Rattle.pgs_color.specs.declared.palette.Updated.{Updated}

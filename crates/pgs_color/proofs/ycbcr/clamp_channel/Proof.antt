@@ -1,9 +1,8 @@
 -- `clamp_channel` gives the byte of its sum: the laws of Clamping.antt, at the tests' literals.
 -- Assumes nothing.
 use mathlib.Core.Path.{sym, subst, _∙_}
-use mathlib.Core.Bool.{true, false}
 use Prim.Native.Nat.{ℕ, _<_}
-use lib.Ieee.{Float, ofBits, ofInt, binary32, add, lt, le}
+use lib.Ieee.{ofBits, ofInt, binary32, add}
 use Rattle.pgs_color.specs.Bytes.{half}
 use Rattle.pgs_color.proofs.Clamping.{Middle, middle, top, bottom}
 use Rattle.pgs_color.proofs.ycbcr.clamp_channel.Statement.{statement}
