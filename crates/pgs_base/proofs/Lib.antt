@@ -4,3 +4,4 @@ pub mod Front
 pub mod Lists
 pub mod Outcomes
 pub mod Takes
+pub mod Views

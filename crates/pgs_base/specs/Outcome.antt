@@ -45,7 +45,7 @@ abbrev pub needing : ℕ → ℕ → Verdict
 needing need room = unless 34 (leb need room)
 
 -- a lent list or buffer after a call that writes `new`. 01: "An accepted call changes only the bytes or records it needs", "A
--- refused call changes nothing"
+-- refused call changes nothing, save painting refused by 24 to 33", which has a definition of its own
 abbrev pub laid : {A : Type 0} → Verdict → List A → List A → List A
 laid accepted new old = new ++ drop (length new) old
 laid (refused k) new old = old

@@ -33,8 +33,8 @@ pub extern "C" fn pgs_parse_segments(
 {
     match parse_segments(stream, segments) {
         StreamAnswer::Refused(why) => why.number(),
-        StreamAnswer::Segments(n) => {
-            *count = n as u64;
+        StreamAnswer::Segments(found) => {
+            *count = found as u64;
             0
         }
     }
@@ -66,9 +66,9 @@ pub extern "C" fn pgs_parse_pcs(
 {
     match Pcs::parse(body, placements) {
         PcsAnswer::Refused(why) => why.number(),
-        PcsAnswer::Placements(numbers, n) => {
+        PcsAnswer::Placements(numbers, placed) => {
             *pcs = pcs_cells(numbers);
-            *count = n as u64;
+            *count = placed as u64;
             0
         }
     }
@@ -80,8 +80,8 @@ pub extern "C" fn pgs_parse_wds(body: &[u8], windows: &mut [[u16; 5]], count: &m
 {
     match Wds::parse(body, windows) {
         WdsAnswer::Refused(why) => why.number(),
-        WdsAnswer::Windows(n) => {
-            *count = n as u64;
+        WdsAnswer::Windows(windows_read) => {
+            *count = windows_read as u64;
             0
         }
     }
@@ -105,9 +105,9 @@ pub extern "C" fn pgs_parse_pds(
 {
     match Pds::parse(body, entries) {
         PdsAnswer::Refused(why) => why.number(),
-        PdsAnswer::Entries(numbers, n) => {
+        PdsAnswer::Entries(numbers, given) => {
             *pds = pds_cells(numbers);
-            *count = n as u64;
+            *count = given as u64;
             0
         }
     }

@@ -2,6 +2,7 @@ pub mod HeaderLaws
 pub mod OdsLaws
 pub mod PcsLaws
 pub mod PdsLaws
+pub mod ReadingLaws
 pub mod RecordLaws
 pub mod SegmentLaws
 pub mod StreamLaws

@@ -10,7 +10,8 @@ use lib.ListN.{length}
 use Rattle.pgs_base.specs.Bytes.{num}
 use Rattle.pgs_base.specs.Outcome.{gives, refuses, accepted, outcomeOf, unless}
 use Rattle.pgs_base.proofs.Outcomes.{first-holds, second-holds, holds}
-use Rattle.pgs_segment.specs.OdsBody.{fragmentOf, isFirst, flagOf, headSize, dimensionsOf, odsVerdict, odsList}
+use Rattle.pgs_base.specs.Fragments.{fragmentOf, isFirst}
+use Rattle.pgs_segment.specs.OdsBody.{flagOf, headSize, dimensionsOf, odsVerdict, odsList}
 use Rattle.pgs_segment.specs.declared.ods.Dimensions.the-variants.{Absent, Present}
 
 pub head-first : {t : Bool} (flag : ℕ) → t ≡ isFirst (fragmentOf flag) → t ≡ true → headSize flag ≡ 11
@@ -20,8 +21,8 @@ pub head-later : {t : Bool} (flag : ℕ) → t ≡ isFirst (fragmentOf flag) →
 head-later flag e q = rw (← e, q)
 
 module _ (b : List ℕ) where
-  pub short-head : length b < 7 → refuses 4 ≡ outcomeOf (odsVerdict b) (odsList b)
-  short-head h = simp (lt-leb 7 (length b) h)
+  pub short-numbers : length b < 7 → refuses 4 ≡ outcomeOf (odsVerdict b) (odsList b)
+  short-numbers h = simp (lt-leb 7 (length b) h)
 
   pub short-dimensions : {s : ℕ} → 7 ≤ length b → s ≡ headSize (flagOf b) → length b < s → refuses 4 ≡ outcomeOf (odsVerdict b) (odsList b)
   short-dimensions h e q = simp (le-leb 7 (length b) h, lt-leb (headSize (flagOf b)) (length b) (rw (← e) q))

@@ -17,8 +17,8 @@ module _ (b : List ℕ) where
   pub short-numbers : length b < 2 → refuses 4 ≡ outcomeOf (pdsVerdict b) (pdsList b)
   short-numbers h = simp (lt-leb 2 (length b) h)
 
-  pub uneven : 2 ≤ length b → ((length b - 2) % 5 ≡ 0 → ⊥) → refuses 5 ≡ outcomeOf (pdsVerdict b) (pdsList b)
-  uneven h e = simp (le-leb 2 (length b) h, ne-eqb ((length b - 2) % 5) 0 e)
+  pub partial-entry : 2 ≤ length b → ((length b - 2) % 5 ≡ 0 → ⊥) → refuses 5 ≡ outcomeOf (pdsVerdict b) (pdsList b)
+  partial-entry h e = simp (le-leb 2 (length b) h, ne-eqb ((length b - 2) % 5) 0 e)
 
   pub whole-entries : 2 ≤ length b → (length b - 2) % 5 ≡ 0
       → gives (record { count = (length b - 2) / 5; start = 2; len = length b - 2 }) ≡ outcomeOf (pdsVerdict b) (pdsList b)

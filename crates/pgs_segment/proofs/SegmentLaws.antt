@@ -1,5 +1,6 @@
 -- How testing and reading one segment end, over its bytes. Assumes nothing.
 use mathlib.Core.Path.{_≡_, refl, sym, ap, _∙_}
+use mathlib.Core.Bool.{true}
 use mathlib.Core.List.{List}
 use Prim.Native.Nat.{ℕ, _+_, _-_, _≤_, _<_}
 use native.Mathlib.Omega.{arith}
@@ -7,12 +8,12 @@ use borrow.Author.Tests.{leb-true, le-leb, lt-leb}
 use lib.Dec.{leb}
 use lib.ListN.{length, take, drop}
 use Rattle.pgs_base.specs.Outcome.{Verdict, Outcome, refuses, accepted, refused, outcomeOf, andThen, unless}
-use Rattle.pgs_base.proofs.Outcomes.{first-holds, second-holds, first-accepts}
+use Rattle.pgs_base.proofs.Outcomes.{first-holds, second-holds, first-accepts, holds}
 use Rattle.pgs_segment.specs.Fields.{bodyVerdict, bodyList, bodyOf, numbersOf}
 use Rattle.pgs_segment.specs.Header.{kindOf, sizeOf, marked, headerVerdict, headerFields}
-use Rattle.pgs_segment.specs.Kinds.{typeOf}
+use Rattle.pgs_base.specs.Kinds.{typeOf}
 use Rattle.pgs_segment.specs.OneSegment.{segmentType, usedBy, bodyAt, segmentVerdict, frameOf}
-use Rattle.pgs_segment.specs.declared.header.SegmentType.{SegmentType}
+use Rattle.pgs_base.specs.declared.«segment_type».SegmentType.{SegmentType}
 use Rattle.pgs_segment.specs.declared.segment.BodyList.{BodyList}
 use Rattle.pgs_segment.specs.declared.segment.SegmentBody.{SegmentBody}
 
@@ -20,12 +21,15 @@ module _ (l : List ℕ) where
   pub has-header : headerVerdict l ≡ accepted → 13 ≤ length l
   has-header e = leb-true 13 (length l) (first-holds 1 (leb 13 (length l)) (unless 2 (marked l)) e)
 
+  pub accepted-mark : headerVerdict l ≡ accepted → marked l ≡ true
+  accepted-mark e = holds 2 (marked l) (second-holds (unless 1 (leb 13 (length l))) _ e)
+
   -- a refused head decides
   pub head-decides : {k : ℕ} → headerVerdict l ≡ refused k → segmentVerdict l ≡ refused k
   head-decides e = ap (λ (v : Verdict). andThen v (andThen (unless 3 (leb (usedBy l) (length l))) (bodyVerdict (segmentType l) (bodyAt l)))) e
 
-  pub short-body : headerVerdict l ≡ accepted → length l - 13 < sizeOf l → segmentVerdict l ≡ refused 3
-  short-body e h = simp (e, lt-leb (usedBy l) (length l) (omega (arith, has-header e)))
+  pub body-past-end : headerVerdict l ≡ accepted → length l - 13 < sizeOf l → segmentVerdict l ≡ refused 3
+  body-past-end e h = simp (e, lt-leb (usedBy l) (length l) (omega (arith, has-header e)))
 
   -- then the body decides
   pub body-decides : headerVerdict l ≡ accepted → sizeOf l ≤ length l - 13 → segmentVerdict l ≡ bodyVerdict (segmentType l) (bodyAt l)

@@ -3,16 +3,17 @@
 -- The kind's byte is that of the body's case; only an unknown kind carries one.
 use Prim.Native.Nat.{ℕ}
 use mathlib.Core.List.{List}
-use lib.ListN.{length}
+use lib.ListN.{length, take, drop}
 use lib.Dec.{eqb}
+use Rattle.pgs_base.specs.Kinds.{rawOf}
 use Rattle.pgs_base.specs.Outcome.{Verdict, accepted, Outcome, gives, refuses, unless}
 use Rattle.pgs_base.specs.Refusals.{numberOf}
 use Rattle.pgs_segment.specs.OdsBody.{odsOf, odsData, odsVerdict, odsList}
 use Rattle.pgs_segment.specs.PcsBody.{pcsOf, placementsOf, pcsVerdict, pcsList}
 use Rattle.pgs_segment.specs.PdsBody.{pdsOf, entriesOf, pdsVerdict, pdsList}
 use Rattle.pgs_segment.specs.WdsBody.{windowsOf, wdsVerdict, wdsList}
-use Rattle.pgs_segment.specs.declared.header.SegmentType.{SegmentType}
-use Rattle.pgs_segment.specs.declared.header.SegmentType.the-variants as kinds
+use Rattle.pgs_base.specs.declared.«segment_type».SegmentType.{SegmentType}
+use Rattle.pgs_base.specs.declared.«segment_type».SegmentType.the-variants as kinds
 use Rattle.pgs_segment.specs.declared.ods.Ods.{Ods}
 use Rattle.pgs_segment.specs.declared.pcs.CompositionObject.{CompositionObject}
 use Rattle.pgs_segment.specs.declared.pcs.Pcs.{Pcs}
@@ -40,6 +41,15 @@ pub record SegmentFields : Type 0 where
   pub dts : ℕ
   pub body : BodyFields
 
+-- the kind's byte
+abbrev pub kindByte : BodyFields → ℕ
+kindByte (pcs p ps) = rawOf kinds.Pcs
+kindByte (wds ws) = rawOf kinds.Wds
+kindByte (pds p es) = rawOf kinds.Pds
+kindByte (ods o d) = rawOf kinds.Ods
+kindByte end = rawOf kinds.End
+kindByte (other v d) = v
+
 -- whether a body of this kind is accepted. 6: "END body not empty"; an unknown kind is always kept
 abbrev pub bodyVerdict : SegmentType → List ℕ → Verdict
 bodyVerdict kinds.Pds b = pdsVerdict b
@@ -66,6 +76,10 @@ bodyList kinds.Pcs b = pcsList b
 bodyList kinds.Wds b = wdsList b
 bodyList kinds.End b = record { count = 0; start = 0; len = 0 }
 bodyList (kinds.Other v) b = record { count = 0; start = 0; len = length b }
+
+-- the bytes of that part of the body
+abbrev pub partOf : BodyList → List ℕ → List ℕ
+partOf p b = take (p .len) (drop (p .start) b)
 
 -- the kind and the numbers alone, without the list or the data
 abbrev pub numbersOf : BodyFields → SegmentBody

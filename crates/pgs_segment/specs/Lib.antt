@@ -1,7 +1,6 @@
 pub mod Checks
 pub mod Fields
 pub mod Header
-pub mod Kinds
 pub mod OdsBody
 pub mod OneSegment
 pub mod PcsBody

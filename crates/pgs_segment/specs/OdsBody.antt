@@ -1,42 +1,21 @@
 -- The body of an ODS. 01, module 3: "ODS: object id 2, version 1, fragment flag 1, declared length 3; if first, width 2 and height 2;
 -- the rest is data. Flag 80 is first, 40 last, C0 both; any other is a middle fragment."
+-- From US 2009/0185789, whose text is not at hand: 01 gives what is needed of it.
 use Prim.Native.Nat.{ℕ, _-_}
 use mathlib.Core.Bool.{Bool, true, false}
 use mathlib.Core.List.{List}
 use lib.ListN.{length, drop}
 use lib.Dec.{leb, eqb}
 use Rattle.pgs_base.specs.Bytes.{num}
+use Rattle.pgs_base.specs.Fragments.{fragmentOf, isFirst}
 use Rattle.pgs_base.specs.Outcome.{Verdict, Outcome, gives, refuses, andThen, unless, pick}
 use Rattle.pgs_base.specs.Refusals.{numberOf}
 use Rattle.pgs_segment.specs.declared.segment.BodyList.{BodyList}
-use Rattle.pgs_segment.specs.declared.ods.FragmentFlag.{FragmentFlag}
-use Rattle.pgs_segment.specs.declared.ods.FragmentFlag.the-variants.{First, Last, FirstAndLast, Other}
 use Rattle.pgs_segment.specs.declared.ods.Dimensions.{Dimensions}
 use Rattle.pgs_segment.specs.declared.ods.Dimensions.the-variants.{Absent, Present}
 use Rattle.pgs_segment.specs.declared.ods.Ods.{Ods}
 use Rattle.pgs_segment.specs.declared.ods.OdsAnswer.{OdsAnswer}
 use Rattle.pgs_segment.specs.declared.ods.OdsAnswer.the-variants.{Fragment, Refused}
-
-abbrev pub rawFragment : FragmentFlag → ℕ
-rawFragment First = 0x80
-rawFragment Last = 0x40
-rawFragment FirstAndLast = 0xC0
-rawFragment (Other v) = v
-
-abbrev pub fragmentOf : ℕ → FragmentFlag
-fragmentOf v = pick (eqb v 0x80) First (pick (eqb v 0x40) Last (pick (eqb v 0xC0) FirstAndLast (Other v)))
-
-abbrev pub isFirst : FragmentFlag → Bool
-isFirst First = true
-isFirst Last = false
-isFirst FirstAndLast = true
-isFirst (Other v) = false
-
-abbrev pub isLast : FragmentFlag → Bool
-isLast First = false
-isLast Last = true
-isLast FirstAndLast = true
-isLast (Other v) = false
 
 -- the fragment flag of a body
 abbrev pub flagOf : List ℕ → ℕ

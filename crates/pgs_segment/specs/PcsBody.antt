@@ -1,6 +1,7 @@
 -- The body of a PCS. 01, module 3: "PCS: width 2, height 2, frame rate 1, composition number 2, state 1 (00 normal, 40 acquisition
 -- point, 80 epoch start, others kept), palette update flag 1 (80 means update), palette id 1, count 1, then placements: object id 2,
 -- window id 1, crop flag 1, x 2, y 2; only if the flag is exactly 40, then crop x, y, width, height, 2 each."
+-- From US 2009/0185789, whose text is not at hand: 01 gives what is needed of it.
 use Prim.Native.Nat.{ℕ}
 use mathlib.Core.Bool.{Bool, true, false}
 use mathlib.Core.List.{List, [], _∷_, _++_, map}
@@ -11,8 +12,6 @@ use Rattle.pgs_base.specs.Outcome.{Verdict, Outcome, gives, refuses, andThen, u
 use Rattle.pgs_base.specs.Refusals.{numberOf}
 use Rattle.pgs_segment.specs.Records.{records, recordsFit, recordsSize}
 use Rattle.pgs_segment.specs.declared.segment.BodyList.{BodyList}
-use Rattle.pgs_segment.specs.declared.pcs.CompositionState.{CompositionState}
-use Rattle.pgs_segment.specs.declared.pcs.CompositionState.the-variants.{Normal, AcquisitionPoint, EpochStart, Other}
 use Rattle.pgs_segment.specs.declared.pcs.CompositionObjectCrop.{CompositionObjectCrop}
 use Rattle.pgs_segment.specs.declared.pcs.Cropping.{Cropping}
 use Rattle.pgs_segment.specs.declared.pcs.Cropping.the-variants.{Uncropped, Cropped}
@@ -20,21 +19,6 @@ use Rattle.pgs_segment.specs.declared.pcs.CompositionObject.{Composition
 use Rattle.pgs_segment.specs.declared.pcs.Pcs.{Pcs}
 use Rattle.pgs_segment.specs.declared.pcs.PcsAnswer.{PcsAnswer}
 use Rattle.pgs_segment.specs.declared.pcs.PcsAnswer.the-variants.{Placements, Refused}
-
-abbrev pub rawState : CompositionState → ℕ
-rawState Normal = 0x00
-rawState AcquisitionPoint = 0x40
-rawState EpochStart = 0x80
-rawState (Other v) = v
-
-abbrev pub stateOf : ℕ → CompositionState
-stateOf v = pick (eqb v 0x00) Normal (pick (eqb v 0x40) AcquisitionPoint (pick (eqb v 0x80) EpochStart (Other v)))
-
-abbrev pub isEpochStart : CompositionState → Bool
-isEpochStart Normal = false
-isEpochStart AcquisitionPoint = false
-isEpochStart EpochStart = true
-isEpochStart (Other v) = false
 
 -- whether the placement at the front of l has a crop: its flag is exactly 40
 abbrev pub cropped : List ℕ → Bool

@@ -1,4 +1,5 @@
 -- The body of a PDS. 01, module 3: "PDS: id 1, version 1, then entries: id, Y, Cr, Cb, alpha, 1 each."
+-- From US 2009/0185789, whose text is not at hand: 01 gives what is needed of it.
 use Prim.Native.Nat.{ℕ, _-_, _/_, _%_}
 use mathlib.Core.List.{List, [], _∷_, map}
 use lib.ListN.{length, drop}

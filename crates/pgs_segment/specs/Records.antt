@@ -12,7 +12,8 @@ abbrev pub records : {A : Type 0} → (List ℕ → A) → (List ℕ → ℕ) �
 records f size zero l = []
 records f size (suc n) l = f l ∷ records f size n (drop (size l) l)
 
--- whether each of n records is whole: none needs more bytes than are left
+-- whether each of n records is whole: none needs more bytes than are left. A reader that goes field by field runs out in a record exactly
+-- when fewer bytes are left than its size
 abbrev pub recordsFit : (List ℕ → ℕ) → ℕ → List ℕ → Bool
 recordsFit size zero l = true
 recordsFit size (suc n) l = pick (leb (size l) (length l)) (recordsFit size n (drop (size l) l)) false

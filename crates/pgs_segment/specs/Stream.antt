@@ -1,7 +1,7 @@
 -- A stream of segments. 01, module 4: "The stream answer is a count and a caller's list of segment records, filled from the front
 -- (place, PTS, DTS, kind, body length). An empty stream has none."
 use Prim.Native.Nat.{ℕ, zero, suc, _+_, _-_}
-use mathlib.Core.List.{List, [], _∷_, map}
+use mathlib.Core.List.{List, [], _∷_, _++_, map}
 use lib.ListN.{length, take, drop}
 use lib.Dec.{ltb}
 use Rattle.pgs_base.specs.Outcome.{Verdict, accepted, Outcome, gives, refuses, andThen, unless, pick, isAccepted}
@@ -32,22 +32,22 @@ readFirst zero l = record { pieces = []; rest = l }
 readFirst (suc n) l =
     pick (isAccepted (stepVerdict l)) (before (take (usedBy l) l) (readFirst n (drop (usedBy l) l))) (record { pieces = []; rest = l })
 
--- all of them: a stream has fewer segments than bytes
+-- all of them: a stream has no more segments than bytes
 unfoldable pub readOf : List ℕ → Reading
 readOf s = readFirst (length s) s
 
--- what stopped the reading: the end, or the number of the segment there
+-- what stopped the reading: the end, or the number of the refused segment there
 abbrev pub stoppedBy : List ℕ → Verdict
 stoppedBy [] = accepted
 stoppedBy (b ∷ bs) = stepVerdict (b ∷ bs)
 
+-- the place where it stopped
+abbrev pub stopPlace : List ℕ → ℕ
+stopPlace s = length s - length (readOf s .rest)
+
 -- a stream is accepted when the end stopped the reading
 abbrev pub streamVerdict : List ℕ → Verdict
 streamVerdict s = stoppedBy (readOf s .rest)
-
--- and its place
-abbrev pub stopPlace : List ℕ → ℕ
-stopPlace s = length s - length (readOf s .rest)
 
 abbrev pub segmentCount : List ℕ → ℕ
 segmentCount s = length (readOf s .pieces)
@@ -55,6 +55,11 @@ segmentCount s = length (readOf s .pieces)
 -- the fields of all segments
 abbrev pub streamFields : List ℕ → List SegmentFields
 streamFields s = map fieldsOf (readOf s .pieces)
+
+-- segments end to end
+abbrev pub joined : List (List ℕ) → List ℕ
+joined [] = []
+joined (x ∷ xs) = x ++ joined xs
 
 -- the record of a segment at a place
 abbrev pub segmentRow : ℕ → List ℕ → List ℕ

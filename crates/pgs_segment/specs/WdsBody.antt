@@ -1,4 +1,5 @@
 -- The body of a WDS. 01, module 3: "WDS: count 1, then windows: id 1, x, y, width, height, 2 each."
+-- From US 2009/0185789, whose text is not at hand: 01 gives what is needed of it.
 use Prim.Native.Nat.{ℕ, _*_}
 use mathlib.Core.List.{List, [], _∷_, map}
 use lib.ListN.{length, drop}

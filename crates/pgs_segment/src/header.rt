@@ -5,7 +5,6 @@ use crate::fields::u32_at;
 use pgs_base::refusal::Refusal;
 ghost use mathlib.Core.Path.{_≡_};
 ghost use Rattle.pgs_segment.specs.Header.{headerOutcome, headerOf};
-ghost use Rattle.pgs_segment.specs.Kinds.{typeOf, rawOf};
 
 pub struct SegmentHeader {
     pub pts: u32,
@@ -19,16 +18,6 @@ pub enum HeaderAnswer {
     Refused(Refusal),
 }
 
-// A view of the kind's byte.
-pub enum SegmentType {
-    Pds,
-    Ods,
-    Pcs,
-    Wds,
-    End,
-    Other(u8),
-}
-
 impl SegmentHeader {
     // The size of the head itself.
     pub const SIZE: usize = 13;
@@ -36,7 +25,7 @@ impl SegmentHeader {
     pub fn parse(buf: &[u8]) -> HeaderAnswer
         ensures { λ r. ⌜ headerOutcome r ≡ headerOf (now (buf .entry)) ⌝ }
     {
-        if buf.len() < 13 {
+        if buf.len() < SegmentHeader::SIZE {
             return HeaderAnswer::Refused(Refusal::TruncatedHeader);
         }
         if buf[0] != 0x50 {
@@ -51,33 +40,5 @@ impl SegmentHeader {
             segment_type: u8_at(buf, 10),
             segment_size: u16_at(buf, 11),
         })
-    }
-}
-
-impl SegmentType {
-    pub fn from_raw(v: u8) -> Self
-        ensures { λ r. ⌜ r ≡ typeOf v ⌝ }
-    {
-        match v {
-            0x14 => SegmentType::Pds,
-            0x15 => SegmentType::Ods,
-            0x16 => SegmentType::Pcs,
-            0x17 => SegmentType::Wds,
-            0x80 => SegmentType::End,
-            _ => SegmentType::Other(v),
-        }
-    }
-
-    pub fn as_raw(self) -> u8
-        ensures { λ r. ⌜ r ≡ rawOf self ⌝ }
-    {
-        match self {
-            SegmentType::Pds => 0x14,
-            SegmentType::Ods => 0x15,
-            SegmentType::Pcs => 0x16,
-            SegmentType::Wds => 0x17,
-            SegmentType::End => 0x80,
-            SegmentType::Other(v) => v,
-        }
     }
 }

@@ -4,6 +4,7 @@ use crate::fields::u16_at;
 use crate::fields::u24_at;
 use crate::segment::BodyList;
 use crate::segment::Checked;
+use pgs_base::fragment_flag::FragmentFlag;
 use pgs_base::refusal::Refusal;
 ghost use mathlib.Core.Path.{_≡_};
 ghost use Prim.Native.Nat.{_≤_};
@@ -11,10 +12,6 @@ ghost use lib.ListN.{length};
 ghost use Rattle.pgs_base.specs.Outcome.{outcomeOf};
 ghost use Rattle.pgs_segment.specs.Checks.{checkedOutcome};
 ghost use Rattle.pgs_segment.specs.OdsBody.{
-  fragmentOf,
-  rawFragment,
-  isFirst,
-  isLast,
   flagOf,
   headSize,
   dimensionsOf,
@@ -23,14 +20,6 @@ ghost use Rattle.pgs_segment.specs.OdsBody.{
   odsList,
   odsOutcome,
 };
-
-// A view of the fragment flag's byte.
-pub enum FragmentFlag {
-    First,
-    Last,
-    FirstAndLast,
-    Other(u8),
-}
 
 // Width and height, which only a first fragment has.
 pub enum Dimensions {
@@ -51,54 +40,6 @@ pub struct Ods {
 pub enum OdsAnswer {
     Fragment(Ods, BodyList),
     Refused(Refusal),
-}
-
-impl FragmentFlag {
-    pub fn from_raw(v: u8) -> Self
-        ensures { λ r. ⌜ r ≡ fragmentOf v ⌝ }
-    {
-        match v {
-            0x80 => FragmentFlag::First,
-            0x40 => FragmentFlag::Last,
-            0xC0 => FragmentFlag::FirstAndLast,
-            _ => FragmentFlag::Other(v),
-        }
-    }
-
-    pub fn as_raw(self) -> u8
-        ensures { λ r. ⌜ r ≡ rawFragment self ⌝ }
-    {
-        match self {
-            FragmentFlag::First => 0x80,
-            FragmentFlag::Last => 0x40,
-            FragmentFlag::FirstAndLast => 0xC0,
-            FragmentFlag::Other(v) => v,
-        }
-    }
-
-    // Whether the fragment opens its object, and so has the dimensions.
-    pub fn is_first(self) -> bool
-        ensures { λ r. ⌜ r ≡ isFirst self ⌝ }
-    {
-        match self {
-            FragmentFlag::First => true,
-            FragmentFlag::Last => false,
-            FragmentFlag::FirstAndLast => true,
-            FragmentFlag::Other(_) => false,
-        }
-    }
-
-    // Whether the fragment closes its object.
-    pub fn is_last(self) -> bool
-        ensures { λ r. ⌜ r ≡ isLast self ⌝ }
-    {
-        match self {
-            FragmentFlag::First => false,
-            FragmentFlag::Last => true,
-            FragmentFlag::FirstAndLast => true,
-            FragmentFlag::Other(_) => false,
-        }
-    }
 }
 
 // How many bytes stand before the data, by the fragment flag.
@@ -157,13 +98,6 @@ impl Ods {
             object_data_length: u24_at(body, 4),
             dimensions: Ods::dimensions(body),
         }
-    }
-
-    // A view of the fragment flag.
-    pub fn fragment(self) -> FragmentFlag
-        ensures { λ r. ⌜ r ≡ fragmentOf (self .«last_in_sequence_flag») ⌝ }
-    {
-        FragmentFlag::from_raw(self.last_in_sequence_flag)
     }
 
     // Reads a body; its data stays where it is.

@@ -8,15 +8,11 @@ ghost use mathlib.Core.Path.{_≡_};
 ghost use mathlib.Core.List.{map};
 ghost use mathlib.Core.Bool.{true};
 ghost use Prim.Native.Nat.{_≤_};
-ghost use lib.Dec.{eqb};
 ghost use lib.ListN.{length, drop};
 ghost use Rattle.pgs_base.specs.Outcome.{accepted, outcomeOf, unless, laid, Delivered};
 ghost use Rattle.pgs_segment.specs.Checks.{checkedOutcome};
 ghost use Rattle.pgs_segment.specs.Records.{records, recordsFit};
 ghost use Rattle.pgs_segment.specs.PcsBody.{
-  stateOf,
-  rawState,
-  isEpochStart,
   placementOf,
   placementSize,
   placementRow,
@@ -29,14 +25,6 @@ ghost use Rattle.pgs_segment.specs.PcsBody.{
   placementRows,
   pcsOutcome,
 };
-
-// A view of the state's byte.
-pub enum CompositionState {
-    Normal,
-    AcquisitionPoint,
-    EpochStart,
-    Other(u8),
-}
 
 // The part of an object that a placement shows.
 pub struct CompositionObjectCrop {
@@ -77,41 +65,6 @@ pub struct Pcs {
 pub enum PcsAnswer {
     Placements(Pcs, usize),
     Refused(Refusal),
-}
-
-impl CompositionState {
-    pub fn from_raw(v: u8) -> Self
-        ensures { λ r. ⌜ r ≡ stateOf v ⌝ }
-    {
-        match v {
-            0x00 => CompositionState::Normal,
-            0x40 => CompositionState::AcquisitionPoint,
-            0x80 => CompositionState::EpochStart,
-            _ => CompositionState::Other(v),
-        }
-    }
-
-    pub fn as_raw(self) -> u8
-        ensures { λ r. ⌜ r ≡ rawState self ⌝ }
-    {
-        match self {
-            CompositionState::Normal => 0x00,
-            CompositionState::AcquisitionPoint => 0x40,
-            CompositionState::EpochStart => 0x80,
-            CompositionState::Other(v) => v,
-        }
-    }
-
-    pub fn is_epoch_start(self) -> bool
-        ensures { λ r. ⌜ r ≡ isEpochStart self ⌝ }
-    {
-        match self {
-            CompositionState::Normal => false,
-            CompositionState::AcquisitionPoint => false,
-            CompositionState::EpochStart => true,
-            CompositionState::Other(_) => false,
-        }
-    }
 }
 
 // How many bytes the placement at the front of `l` takes.
@@ -247,22 +200,6 @@ fn fill_placements(body: &[u8], n: usize, list: &mut [[u16; 10]])
 }
 
 impl Pcs {
-    // The value of the palette update flag that means an update.
-    pub const PALETTE_UPDATE: u8 = 0x80;
-
-    // A view of the state.
-    pub fn state(self) -> CompositionState
-        ensures { λ r. ⌜ r ≡ stateOf (self .«composition_state») ⌝ }
-    {
-        CompositionState::from_raw(self.composition_state)
-    }
-
-    pub fn is_palette_update(self) -> bool
-        ensures { λ r. ⌜ r ≡ eqb (self .«palette_update_flag») 0x80 ⌝ }
-    {
-        self.palette_update_flag == Pcs::PALETTE_UPDATE
-    }
-
     // The numbers of a body that is known to be whole.
     pub(crate) fn numbers(body: &[u8]) -> Pcs
         requires { ⌜ 11 ≤ length (now body) ⌝ }

@@ -1,7 +1,6 @@
 // One segment: its head and its body (01, module 4).
 use crate::header::HeaderAnswer;
 use crate::header::SegmentHeader;
-use crate::header::SegmentType;
 use crate::ods::Ods;
 use crate::ods::check_ods;
 use crate::pcs::Pcs;
@@ -10,6 +9,7 @@ use crate::pds::Pds;
 use crate::pds::check_pds;
 use crate::wds::check_wds;
 use pgs_base::refusal::Refusal;
+use pgs_base::segment_type::SegmentType;
 ghost use mathlib.Core.Path.{_≡_};
 ghost use Rattle.pgs_base.specs.Outcome.{accepted, outcomeOf};
 ghost use Rattle.pgs_segment.specs.Checks.{checkedOutcome};
@@ -143,11 +143,11 @@ pub(crate) fn check_segment(buf: &[u8]) -> FrameAnswer
         HeaderAnswer::Refused(why) => FrameAnswer::Refused(why),
         HeaderAnswer::Header(header) => {
             let size = header.segment_size as usize;
-            if buf.len() - 13 < size {
+            if buf.len() - SegmentHeader::SIZE < size {
                 return FrameAnswer::Refused(Refusal::TruncatedBody);
             }
             let kind = SegmentType::from_raw(header.segment_type);
-            match check_body(kind, &buf[13..13 + size]) {
+            match check_body(kind, &buf[SegmentHeader::SIZE..SegmentHeader::SIZE + size]) {
                 Checked::Refused(why) => FrameAnswer::Refused(why),
                 Checked::List(list) => FrameAnswer::Framed(Frame { header, list }),
             }
@@ -165,9 +165,9 @@ impl Segment {
             FrameAnswer::Framed(frame) => {
                 let header = frame.header;
                 let list = frame.list;
-                let used = 13 + header.segment_size as usize;
+                let used = SegmentHeader::SIZE + header.segment_size as usize;
                 let kind = SegmentType::from_raw(header.segment_type);
-                let body = SegmentBody::numbers(kind, &buf[13..used]);
+                let body = SegmentBody::numbers(kind, &buf[SegmentHeader::SIZE..used]);
                 SegmentAnswer::Segment(Segment {
                     header,
                     body,

@@ -2,6 +2,7 @@
 use crate::fields::u8_at;
 use crate::fields::u16_at;
 use crate::fields::u32_at;
+use crate::header::SegmentHeader;
 use crate::segment::FrameAnswer;
 use crate::segment::check_segment;
 use pgs_base::refusal::Refusal;
@@ -36,7 +37,7 @@ fn count_segments(s: &[u8]) -> StreamAnswer
             }
             FrameAnswer::Framed(frame) => {
                 let header = frame.header;
-                let used = 13 + header.segment_size as usize;
+                let used = SegmentHeader::SIZE + header.segment_size as usize;
                 if used == 0 {
                     return StreamAnswer::Refused(Refusal::ZeroLengthSegment);
                 }
@@ -71,7 +72,7 @@ fn fill_segments(s: &[u8], n: usize, list: &mut [[u64; 5]])
     let mut i: usize = 0;
     let mut at: usize = 0;
     while i < n {
-        let used = 13 + u16_at(&s[at..], 11) as usize;
+        let used = SegmentHeader::SIZE + u16_at(&s[at..], 11) as usize;
         list[i] = segment_record(&s[at..], at);
         i += 1;
         at += used;

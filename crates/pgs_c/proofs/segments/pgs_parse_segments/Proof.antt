@@ -17,8 +17,8 @@ enum-known-why c = search needs
 number-requires : tie.Need-number-requires
 number-requires c κs = search needs
 
-enum-known-n : tie.Need-enum-known-n
-enum-known-n c = search needs
+enum-known-found : tie.Need-enum-known-found
+enum-known-found c = search needs
 
 same-length : tie.Need-same-length
 same-length c = search needs
@@ -30,7 +30,7 @@ same-length-2 : tie.Need-same-length-2
 same-length-2 c = search needs
 
 returns-2 : tie.Need-returns-2
-returns-2 c = let e = ap streamOutcome (c .before .n .given .1) in list-accepted (c .before .before .before .before .parse-segments .ensures) (now (c .before .before .before .before .before .before .before .args .count)) e (value (c .before .before .before .before .parse-segments .ensures) e)
+returns-2 c = let e = ap streamOutcome (c .before .found .given .1) in list-accepted (c .before .before .before .before .parse-segments .ensures) (now (c .before .before .before .before .before .before .before .args .count)) e (value (c .before .before .before .before .parse-segments .ensures) e)
 
 pub pgs-parse-segments-spec : {M : Type 1} → statement M
 pgs-parse-segments-spec =
@@ -39,7 +39,7 @@ pgs-parse-segments-spec =
     parse-segments-requires
     enum-known-why
     number-requires
-    enum-known-n
+    enum-known-found
     same-length
     returns
     same-length-2

@@ -17,8 +17,8 @@ enum-known-why c = search needs
 number-requires : tie.Need-number-requires
 number-requires c κs = search needs
 
-enum-known-n : tie.Need-enum-known-n
-enum-known-n c = search needs
+enum-known-windows-read : tie.Need-enum-known-windows-read
+enum-known-windows-read c = search needs
 
 same-length : tie.Need-same-length
 same-length c = search needs
@@ -30,7 +30,7 @@ same-length-2 : tie.Need-same-length-2
 same-length-2 c = search needs
 
 returns-2 : tie.Need-returns-2
-returns-2 c = let e = ap wdsOutcome (c .before .n .given .1) in list-accepted (c .before .before .before .before .parse .ensures) (now (c .before .before .before .before .before .before .before .args .count)) e (value (c .before .before .before .before .parse .ensures) e)
+returns-2 c = let e = ap wdsOutcome (c .before .windows-read .given .1) in list-accepted (c .before .before .before .before .parse .ensures) (now (c .before .before .before .before .before .before .before .args .count)) e (value (c .before .before .before .before .parse .ensures) e)
 
 pub pgs-parse-wds-spec : {M : Type 1} → statement M
 pgs-parse-wds-spec =
@@ -39,7 +39,7 @@ pgs-parse-wds-spec =
     parse-requires
     enum-known-why
     number-requires
-    enum-known-n
+    enum-known-windows-read
     same-length
     returns
     same-length-2

@@ -1,6 +1,6 @@
 -- `check_ods` tests that the numbers are there, the dimensions of a first fragment among them.
 -- Assumes nothing.
-use Rattle.pgs_segment.proofs.OdsLaws.{short-head, short-dimensions, whole-head}
+use Rattle.pgs_segment.proofs.OdsLaws.{short-numbers, short-dimensions, whole-head}
 use Rattle.pgs_segment.proofs.ods.check_ods.Statement.{statement}
 use Rattle.pgs_segment.specs.OdsBody.{headSize}
 use borrow.Author.Needs.{needs}
@@ -9,7 +9,7 @@ use mathlib.Core.Path.{ap, _∙_}
 use Rattle.pgs_segment.proofs.ods.check_ods.Tie as tie
 
 returns : tie.Need-returns
-returns c = short-head (now (c .before .before .args .body)) (c .if1 .taken)
+returns c = short-numbers (now (c .before .before .args .body)) (c .if1 .taken)
 
 u8-at-requires : tie.Need-u8-at-requires
 u8-at-requires c κs = search needs

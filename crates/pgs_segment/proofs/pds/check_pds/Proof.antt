@@ -1,6 +1,6 @@
 -- `check_pds` tests that id and version are there and that whole entries follow.
 -- Assumes nothing.
-use Rattle.pgs_segment.proofs.PdsLaws.{short-numbers, uneven, whole-entries}
+use Rattle.pgs_segment.proofs.PdsLaws.{short-numbers, partial-entry, whole-entries}
 use Rattle.pgs_segment.proofs.pds.check_pds.Statement.{statement}
 use borrow.Author.Needs.{needs}
 use denote.Ref.{now}
@@ -13,7 +13,7 @@ sub-len : tie.Need-sub-len
 sub-len c = search needs
 
 returns-2 : tie.Need-returns-2
-returns-2 c = uneven (now (c .before .before .args .body)) (c .before .if1 .left) (c .if2 .taken)
+returns-2 c = partial-entry (now (c .before .before .args .body)) (c .before .if1 .left) (c .if2 .taken)
 
 returns-3 : tie.Need-returns-3
 returns-3 c = whole-entries (now (c .before .before .args .body)) (c .before .if1 .left) (c .if2 .left)

@@ -3,12 +3,12 @@
 use Prim.Native.Nat.{ℕ}
 use Rattle.pgs_base.proofs.Outcomes.{gave, gave-value, turned-down, gives-as, refuses-as}
 use Rattle.pgs_base.specs.Outcome.{gives, outcomeOf, accepted}
-use Rattle.pgs_segment.proofs.SegmentLaws.{has-header, head-decides, short-body, body-decides, lent-body}
+use Rattle.pgs_segment.proofs.SegmentLaws.{has-header, head-decides, body-past-end, body-decides, lent-body}
 use Rattle.pgs_segment.proofs.segment.check_segment.Statement.{statement}
 use Rattle.pgs_segment.specs.Checks.{checkedOutcome}
 use Rattle.pgs_segment.specs.Fields.{bodyVerdict, bodyList}
 use Rattle.pgs_segment.specs.Header.{headerOutcome, headerVerdict, headerFields, sizeOf, kindOf}
-use Rattle.pgs_segment.specs.Kinds.{typeOf}
+use Rattle.pgs_base.specs.Kinds.{typeOf}
 use Rattle.pgs_segment.specs.OneSegment.{segmentType, bodyAt, frameOf}
 use Rattle.pgs_segment.specs.declared.header.SegmentHeader.{SegmentHeader}
 use borrow.Author.Needs.{needs}
@@ -45,7 +45,7 @@ sub-if1 : tie.Need-sub-if1
 sub-if1 c = has-header (now (c .before .before .before .before .before .before .args .buf)) (ok (now (c .before .before .before .before .before .before .args .buf)) (sym (ap headerOutcome (c .before .before .header .given .1)) ∙ c .before .before .before .before .parse .ensures))
 
 returns : tie.Need-returns
-returns c = let l = now (c .before .before .before .before .before .before .before .args .buf) in let e = (sym (ap headerOutcome (c .before .before .before .header .given .1)) ∙ c .before .before .before .before .before .parse .ensures) in refuses-as (frameOf l) (short-body l (ok l e) (rw (← size-is l e) (c .if1 .taken)))
+returns c = let l = now (c .before .before .before .before .before .before .before .args .buf) in let e = (sym (ap headerOutcome (c .before .before .before .header .given .1)) ∙ c .before .before .before .before .before .parse .ensures) in refuses-as (frameOf l) (body-past-end l (ok l e) (rw (← size-is l e) (c .if1 .taken)))
 
 from-raw-requires : tie.Need-from-raw-requires
 from-raw-requires c κs = search needs

@@ -1,10 +1,10 @@
 -- `CompositionState::from_raw` names the state of a byte.
 -- Assumes nothing.
-use Rattle.pgs_segment.proofs.pcs.CompositionState.from_raw.Statement.{statement}
-use Rattle.pgs_segment.specs.PcsBody.{stateOf}
+use Rattle.pgs_base.proofs.«composition_state».CompositionState.from_raw.Statement.{statement}
+use Rattle.pgs_base.specs.States.{stateOf}
 use borrow.Author.Tests.{ne-eqb}
 use mathlib.Core.Path.{sym, ap}
-use Rattle.pgs_segment.proofs.pcs.CompositionState.from_raw.Tie as tie
+use Rattle.pgs_base.proofs.«composition_state».CompositionState.from_raw.Tie as tie
 
 returns : tie.Need-returns
 returns c = sym (ap stateOf (c .match .keys1))

@@ -1,10 +1,10 @@
 -- `FragmentFlag::from_raw` names the place of a fragment by its flag.
 -- Assumes nothing.
-use Rattle.pgs_segment.proofs.ods.FragmentFlag.from_raw.Statement.{statement}
-use Rattle.pgs_segment.specs.OdsBody.{fragmentOf}
+use Rattle.pgs_base.proofs.«fragment_flag».FragmentFlag.from_raw.Statement.{statement}
+use Rattle.pgs_base.specs.Fragments.{fragmentOf}
 use borrow.Author.Tests.{ne-eqb}
 use mathlib.Core.Path.{sym, ap}
-use Rattle.pgs_segment.proofs.ods.FragmentFlag.from_raw.Tie as tie
+use Rattle.pgs_base.proofs.«fragment_flag».FragmentFlag.from_raw.Tie as tie
 
 returns : tie.Need-returns
 returns c = sym (ap fragmentOf (c .match .keys1))

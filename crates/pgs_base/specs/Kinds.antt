@@ -1,9 +1,10 @@
 -- The kinds of segments. 01, module 2: "Kinds: 14 PDS, 15 ODS, 16 PCS, 17 WDS, 80 END; any other is kept with its byte."
+-- From US 2009/0185789, whose text is not at hand: 01 gives what is needed of it.
 use Prim.Native.Nat.{ℕ}
 use lib.Dec.{eqb}
 use Rattle.pgs_base.specs.Outcome.{pick}
-use Rattle.pgs_segment.specs.declared.header.SegmentType.{SegmentType}
-use Rattle.pgs_segment.specs.declared.header.SegmentType.the-variants.{Pds, Ods, Pcs, Wds, End, Other}
+use Rattle.pgs_base.specs.declared.«segment_type».SegmentType.{SegmentType}
+use Rattle.pgs_base.specs.declared.«segment_type».SegmentType.the-variants.{Pds, Ods, Pcs, Wds, End, Other}
 
 abbrev pub rawOf : SegmentType → ℕ
 rawOf Pds = 0x14

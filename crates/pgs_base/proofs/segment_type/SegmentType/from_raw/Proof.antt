@@ -1,10 +1,10 @@
 -- `SegmentType::from_raw` names the kind of a byte.
 -- Assumes nothing.
-use Rattle.pgs_segment.proofs.header.SegmentType.from_raw.Statement.{statement}
-use Rattle.pgs_segment.specs.Kinds.{typeOf}
+use Rattle.pgs_base.proofs.«segment_type».SegmentType.from_raw.Statement.{statement}
+use Rattle.pgs_base.specs.Kinds.{typeOf}
 use borrow.Author.Tests.{ne-eqb}
 use mathlib.Core.Path.{sym, ap}
-use Rattle.pgs_segment.proofs.header.SegmentType.from_raw.Tie as tie
+use Rattle.pgs_base.proofs.«segment_type».SegmentType.from_raw.Tie as tie
 
 returns : tie.Need-returns
 returns c = sym (ap typeOf (c .match .keys1))
