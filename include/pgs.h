@@ -37,6 +37,7 @@ enum {
     PGS_FIELD_PAST_END = 4,
     PGS_PARTIAL_PALETTE_ENTRY = 5,
     PGS_NON_EMPTY_END = 6,
+    PGS_ZERO_LENGTH_SEGMENT = 7, /* never given: a segment that was read used 13 bytes at least */
     PGS_BUFFER_TOO_SMALL = 34
 };
 
