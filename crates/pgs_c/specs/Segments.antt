@@ -2,7 +2,6 @@
 -- Each parameter that a call may change is named as it was, and with a prime as it is.
 use Prim.Native.Nat.{ℕ}
 use mathlib.Core.Path.{_≡_}
-use lib.ListN.{length}
 use mathlib.Core.List.{List, [], _∷_, _++_}
 use Rattle.pgs_base.specs.Outcome.{Verdict, laid, delivery}
 use Rattle.pgs_c.specs.Calls.{codeOf, becomes}
