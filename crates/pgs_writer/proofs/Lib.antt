@@ -1,0 +1,4 @@
+pub mod KeptBodies
+pub mod LayoutLaws
+pub mod RecordBytes
+pub mod RecordKinds

@@ -1,0 +1,5 @@
+pub mod Cut
+pub mod Encode
+pub mod Layout
+pub mod Writable
+pub mod Writes
