@@ -2,3 +2,4 @@ pub mod KeptBodies
 pub mod LayoutLaws
 pub mod RecordBytes
 pub mod RecordKinds
+pub mod WrittenBodies
