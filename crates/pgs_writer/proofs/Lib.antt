@@ -2,4 +2,5 @@ pub mod KeptBodies
 pub mod LayoutLaws
 pub mod RecordBytes
 pub mod RecordKinds
+pub mod SegmentBytes
 pub mod WrittenBodies
