@@ -1,3 +1,4 @@
+pub mod Demand3
 pub mod KeptBodies
 pub mod LayoutLaws
 pub mod RecordBytes

@@ -1,4 +1,5 @@
 pub mod Cut
+pub mod Demand3
 pub mod Encode
 pub mod Layout
 pub mod Writable
