@@ -21,7 +21,7 @@ pub big-snoc : (xs : List ℕ) (b : ℕ) → big (xs ++ (b ∷ [])) ≡ big xs *
 big-snoc [] b = omega arith
 big-snoc (x ∷ xs) b =
     let e : 256 ^ length (xs ++ (b ∷ [])) ≡ 256 ^ length xs * 256
-        = ap (λ (k : ℕ). 256 ^ k) (length-append xs (b ∷ []) ∙ add-one (length xs)) ∙ pow-suc 256 (length xs) in
+    = ap (λ (k : ℕ). 256 ^ k) (length-append xs (b ∷ []) ∙ add-one (length xs)) ∙ pow-suc 256 (length xs) in
     rw (e, big-snoc xs b) (omega arith)
 
 -- what is written is read back

@@ -61,16 +61,16 @@ module _ (b : List ℕ) (h : Bytes b) where
       let n = placementCount b in
       let count : length (placementsOf b) ≡ n = records-length placementOf placementSize n (drop 11 b) in
       let head : written (pcsFields (pcsOf b) (length (placementsOf b))) ≡ take 11 b
-          = ap (λ (k : ℕ). written (pcsFields (pcsOf b) k)) count ∙ write-fields pcsWidths 0 b h (omega arith) in
+      = ap (λ (k : ℕ). written (pcsFields (pcsOf b) k)) count ∙ write-fields pcsWidths 0 b h (omega arith) in
       let list = write-records placementFields placementOf placementSize placementWritable placement-kept n (drop 11 b) (bytes-drop 11 b h) fit in
       let room = records-within placementFields placementOf placementSize placementWritable placement-kept n (drop 11 b) fit in
       let fits : allFit (pcsFields (pcsOf b) (length (placementsOf b))) ≡ true
-          = ap (λ (k : ℕ). allFit (pcsFields (pcsOf b) k)) count ∙ fit-fields pcsWidths 0 b h (omega arith) in
+      = ap (λ (k : ℕ). allFit (pcsFields (pcsOf b) k)) count ∙ fit-fields pcsWidths 0 b h (omega arith) in
       let all = each-record placementFields placementOf placementSize placementWritable placement-kept n (drop 11 b) (bytes-drop 11 b h) fit in
       record {
         bytes = (λ k. head k ++ list k) ∙ sym (take-add 11 (recordsSize placementSize n (drop 11 b)) b);
         within = omega (arith, room, length-drop 11 b, long);
-        fine = λ _. (ap (λ (t : Bool). pick t (each placementWritable (placementsOf b)) false) fits ∙ all)
+        fine = λ _. (ap (λ (t : Bool). pick t (each placementWritable (placementsOf b)) false) fits ∙ all);
       }
 
   kept-wds : wdsVerdict b ≡ accepted → KeptBody kinds.Wds b
@@ -82,18 +82,18 @@ module _ (b : List ℕ) (h : Bytes b) where
       let count : length (windowsOf b) ≡ n = records-length windowOf windowSize n (drop 1 b) in
       let size : recordsSize windowSize n (drop 1 b) ≡ 9 * n = size-fixed 9 n (drop 1 b) in
       let head : written ((1, length (windowsOf b)) ∷ []) ≡ take 1 b
-          = ap (λ (k : ℕ). written ((1, k) ∷ [])) count ∙ write-fields (1 ∷ []) 0 b h (omega arith) in
+      = ap (λ (k : ℕ). written ((1, k) ∷ [])) count ∙ write-fields (1 ∷ []) 0 b h (omega arith) in
       let list = write-records windowFields windowOf windowSize test window-kept n (drop 1 b) (bytes-drop 1 b h) fit in
       let room = records-within windowFields windowOf windowSize test window-kept n (drop 1 b) fit in
       let fits : allFit ((1, length (windowsOf b)) ∷ []) ≡ true
-          = ap (λ (k : ℕ). allFit ((1, k) ∷ [])) count ∙ fit-fields (1 ∷ []) 0 b h (omega arith) in
+      = ap (λ (k : ℕ). allFit ((1, k) ∷ [])) count ∙ fit-fields (1 ∷ []) 0 b h (omega arith) in
       let all = each-record windowFields windowOf windowSize test window-kept n (drop 1 b) (bytes-drop 1 b h) fit in
       record {
         bytes =
             (λ k. head k ++ list k)
             ∙ (sym (take-add 1 (recordsSize windowSize n (drop 1 b)) b) ∙ ap (λ (k : ℕ). take (1 + k) b) size);
         within = omega (arith, room, size, length-drop 1 b, long);
-        fine = λ _. (ap (λ (t : Bool). pick t (each test (windowsOf b)) false) fits ∙ all)
+        fine = λ _. (ap (λ (t : Bool). pick t (each test (windowsOf b)) false) fits ∙ all);
       }
 
   kept-pds : pdsVerdict b ≡ accepted → KeptBody kinds.Pds b
@@ -113,7 +113,7 @@ module _ (b : List ℕ) (h : Bytes b) where
             (λ k. head k ++ list k)
             ∙ (sym (take-add 2 (recordsSize entrySize n (drop 2 b)) b) ∙ ap (λ (k : ℕ). take k b) sum);
         within = omega arith;
-        fine = λ _. (ap (λ (t : Bool). pick t (each test (entriesOf b)) false) (fit-fields (1 ∷ 1 ∷ []) 0 b h (omega arith)) ∙ all)
+        fine = λ _. (ap (λ (t : Bool). pick t (each test (entriesOf b)) false) (fit-fields (1 ∷ 1 ∷ []) 0 b h (omega arith)) ∙ all);
       }
 
   kept-ods : odsVerdict b ≡ accepted → KeptBody kinds.Ods b
@@ -121,8 +121,10 @@ module _ (b : List ℕ) (h : Bytes b) where
     where
       long : 7 ≤ length b
       long = ods-laws.has-head b e
+
       room : headSize (flagOf b) ≤ length b
       room = ods-laws.has-dimensions b e
+
       go : (t : Bool) → isFirst (fragmentOf (flagOf b)) ≡ t → KeptBody kinds.Ods b
       go true q =
           let more : 11 ≤ length b = rw q at room in
@@ -131,7 +133,7 @@ module _ (b : List ℕ) (h : Bytes b) where
           record {
             bytes = (λ k. head k ++ all k) ∙ (take-append-drop 11 b ∙ sym (take-length b));
             within = omega arith;
-            fine = λ _. simp q (fit-fields (2 ∷ 1 ∷ 1 ∷ 3 ∷ 2 ∷ 2 ∷ []) 0 b h (omega arith))
+            fine = λ _. simp q (fit-fields (2 ∷ 1 ∷ 1 ∷ 3 ∷ 2 ∷ 2 ∷ []) 0 b h (omega arith));
           }
       go false q =
           let head : written (odsFields (odsOf b)) ≡ take 7 b = simp q (write-fields (2 ∷ 1 ∷ 1 ∷ 3 ∷ []) 0 b h (omega (arith, long))) in
@@ -139,7 +141,7 @@ module _ (b : List ℕ) (h : Bytes b) where
           record {
             bytes = (λ k. head k ++ all k) ∙ (take-append-drop 7 b ∙ sym (take-length b));
             within = omega arith;
-            fine = λ _. simp q (fit-fields (2 ∷ 1 ∷ 1 ∷ 3 ∷ []) 0 b h (omega (arith, long)))
+            fine = λ _. simp q (fit-fields (2 ∷ 1 ∷ 1 ∷ 3 ∷ []) 0 b h (omega (arith, long)));
           }
 
   kept-end : bodyVerdict kinds.End b ≡ accepted → KeptBody kinds.End b

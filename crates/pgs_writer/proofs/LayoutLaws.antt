@@ -53,12 +53,12 @@ read-fields (f ∷ fs) p r at e h =
     let ok : f .1 < 256 ^ f .0 = ltb-true _ _ (first-fits (ltb (f .1) (256 ^ f .0)) (allFit fs) h) in
     let more : allFit fs ≡ true = rest-fits (ltb (f .1) (256 ^ f .0)) (allFit fs) h in
     let first : num (f .0) at (p ++ ((b ++ written fs) ++ r)) ≡ f .1
-        = ap (λ (t : List ℕ). num (f .0) at (p ++ t)) (append-assoc b (written fs) r) ∙ num-bytes (f .0) (f .1) p (written fs ++ r) e ok in
+    = ap (λ (t : List ℕ). num (f .0) at (p ++ t)) (append-assoc b (written fs) r) ∙ num-bytes (f .0) (f .1) p (written fs ++ r) e ok in
     let shape : p ++ ((b ++ written fs) ++ r) ≡ (p ++ b) ++ (written fs ++ r)
-        = ap (λ (t : List ℕ). p ++ t) (append-assoc b (written fs) r) ∙ sym (append-assoc p b (written fs ++ r)) in
+    = ap (λ (t : List ℕ). p ++ t) (append-assoc b (written fs) r) ∙ sym (append-assoc p b (written fs ++ r)) in
     let long : length (p ++ b) ≡ at + f .0 = rw (length-append, length-bytes (f .0) (f .1), e) in
     let rest : numbersAt (widths fs) (at + f .0) (p ++ ((b ++ written fs) ++ r)) ≡ values fs
-        = ap (numbersAt (widths fs) (at + f .0)) shape ∙ read-fields fs (p ++ b) r (at + f .0) long more in
+    = ap (numbersAt (widths fs) (at + f .0)) shape ∙ read-fields fs (p ++ b) r (at + f .0) long more in
     λ k. first k ∷ rest k
 
 -- what is read is written back

@@ -87,6 +87,6 @@ module _ {A : Type 0} (fields : A → List Field) (read : List ℕ → A) (size 
         let more = rest-fits (test a) (each test as′) e in
         let t = recordBytes fields as′ ++ r in
         let room : size (written (fields a) ++ t) ≤ length (written (fields a) ++ t)
-            = rw (sized a t ok, length-append) (omega arith) in
+        = rw (sized a t ok, length-append) (omega arith) in
         rw (append-assoc (written (fields a)) (recordBytes fields as′) r)
         (simp (le-leb (size (written (fields a) ++ t)) (length (written (fields a) ++ t)) room, rest-of a t ok) (written-fit as′ r more))

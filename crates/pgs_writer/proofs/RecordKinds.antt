@@ -45,7 +45,7 @@ window-read w r e =
           «horizontal_position» = getD n 1 0;
           «vertical_position» = getD n 2 0;
           width = getD n 3 0;
-          height = getD n 4 0
+          height = getD n 4 0;
         }
 
 -- entries
@@ -89,8 +89,10 @@ placement-read p r ok = go (p .cropping) refl
   where
     agrees : cropWhere (eqb (p .«object_cropped_flag») 0x40) (p .cropping) ≡ true
     agrees = first-fits (cropWhere (eqb (p .«object_cropped_flag») 0x40) (p .cropping)) (allFit (placementFields p)) ok
+
     fit : allFit (placementFields p) ≡ true
     fit = rest-fits (cropWhere (eqb (p .«object_cropped_flag») 0x40) (p .cropping)) (allFit (placementFields p)) ok
+
     base : (c : Cropping) → List Field
     base c =
         (2, p .«object_id»)
@@ -99,6 +101,7 @@ placement-read p r ok = go (p .cropping) refl
         ∷ (2, p .«object_horizontal_position»)
         ∷ (2, p .«object_vertical_position»)
         ∷ cropFields c
+
     result : List ℕ → Cropping → CompositionObject
     result n c =
         record {
@@ -107,16 +110,20 @@ placement-read p r ok = go (p .cropping) refl
           «object_cropped_flag» = getD n 2 0;
           «object_horizontal_position» = getD n 3 0;
           «object_vertical_position» = getD n 4 0;
-          cropping = c
+          cropping = c;
         }
+
     crop : List ℕ → Cropping
     crop n =
         Cropped
         (record { «horizontal_position» = getD n 5 0; «vertical_position» = getD n 6 0; width = getD n 7 0; height = getD n 8 0 })
+
     Sized : List Field → Type 0
     Sized fs = placementSize (written fs ++ r) ≡ length (written fs)
+
     Same : List Field → Type 0
     Same fs = placementOf (written fs ++ r) ≡ p
+
     go : (c : Cropping) → p .cropping ≡ c
         → (placementSize (written (placementFields p) ++ r) ≡ length (written (placementFields p))) × (placementOf (written (placementFields p) ++ r) ≡ p)
     go Uncropped q =
@@ -128,7 +135,7 @@ placement-read p r ok = go (p .cropping) refl
         let none : croppingOf (written fs ++ r) ≡ Uncropped = simp plain in
         let size : placementSize (written fs ++ r) ≡ length (written fs) = simp plain (sym (length-written fs)) in
         let read : placementOf (written fs ++ r) ≡ p
-            = ap (λ (n : List ℕ). result n (croppingOf (written fs ++ r))) numbers ∙ ap (result (values fs)) (none ∙ sym q) in
+        = ap (λ (n : List ℕ). result n (croppingOf (written fs ++ r))) numbers ∙ ap (result (values fs)) (none ∙ sym q) in
         (subst Sized (sym same) size, subst Same (sym same) read)
     go (Cropped c) q =
         let fs = base (Cropped c) in
@@ -139,5 +146,5 @@ placement-read p r ok = go (p .cropping) refl
         let one : croppingOf (written fs ++ r) ≡ Cropped c = simp has (ap crop numbers) in
         let size : placementSize (written fs ++ r) ≡ length (written fs) = simp has (sym (length-written fs)) in
         let read : placementOf (written fs ++ r) ≡ p
-            = ap (λ (n : List ℕ). result n (croppingOf (written fs ++ r))) numbers ∙ ap (result (values fs)) (one ∙ sym q) in
+        = ap (λ (n : List ℕ). result n (croppingOf (written fs ++ r))) numbers ∙ ap (result (values fs)) (one ∙ sym q) in
         (subst Sized (sym same) size, subst Same (sym same) read)

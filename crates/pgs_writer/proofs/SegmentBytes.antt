@@ -55,16 +55,20 @@ kept-by v b = pcs? (eqb v 0x16) refl
   where
     Same : ℕ → Type 0
     Same k = kept k b ≡ keptBy (typeOf k) b
+
     at-value : (k : ℕ) → eqb v k ≡ true → Same k → Same v
     at-value k e s = subst Same (sym (eqb-true v k e)) s
+
     others : eqb v 0x16 ≡ false → eqb v 0x17 ≡ false → (t : Bool) → eqb v 0x14 ≡ t → (u : Bool) → eqb v 0x15 ≡ u → (w : Bool) → eqb v 0x80 ≡ w → Same v
     others a c true p u q w r = at-value 0x14 p refl
     others a c false p true q w r = at-value 0x15 q refl
     others a c false p false q true r = at-value 0x80 r refl
     others a c false p false q false r = simp (a, c, p, q, r)
+
     wds? : eqb v 0x16 ≡ false → (t : Bool) → eqb v 0x17 ≡ t → Same v
     wds? a true e = at-value 0x17 e (ap (λ (k : ℕ). 1 + 9 * k) (byte-at 0 b))
     wds? a false e = others a e (eqb v 0x14) refl (eqb v 0x15) refl (eqb v 0x80) refl
+
     pcs? : (t : Bool) → eqb v 0x16 ≡ t → Same v
     pcs? true e =
         at-value 0x16 e
@@ -135,10 +139,10 @@ module _ (x : List ℕ) (h : Bytes x) (w : Whole x) where
   encode-read =
       let n = keptBy (segmentType x) (bodyAt x) in
       let head : written (headFields (ptsOf x) (dtsOf x) (kindByte (bodyOf (segmentType x) (bodyAt x))) (length (bodyBytes (bodyOf (segmentType x) (bodyAt x)))))
-              ≡ take 11 x ++ bytesOf 2 n
-          = (λ i. written (headFields (ptsOf x) (dtsOf x) (kind-is i) (encoded-length i)))
-          ∙ (written-append (frontFields 0x50 0x47 (ptsOf x) (dtsOf x) (kindOf x)) ((2, n) ∷ [])
-          ∙ (λ i. front i ++ append-nil (bytesOf 2 n) i)) in
+      ≡ take 11 x ++ bytesOf 2 n
+      = (λ i. written (headFields (ptsOf x) (dtsOf x) (kind-is i) (encoded-length i)))
+      ∙ (written-append (frontFields 0x50 0x47 (ptsOf x) (dtsOf x) (kindOf x)) ((2, n) ∷ [])
+      ∙ (λ i. front i ++ append-nil (bytesOf 2 n) i)) in
       let body : bodyBytes (bodyOf (segmentType x) (bodyAt x)) ≡ take n (drop 13 x) = whole .bytes ∙ ap (take n) body-is in
       let k = sym kept-is in
       (λ i. head i ++ body i) ∙ (λ i. take 11 x ++ bytesOf 2 (k i) ++ take (k i) (drop 13 x))
@@ -159,10 +163,10 @@ module _ (x : List ℕ) (h : Bytes x) (w : Whole x) where
       let m = sym mark-0 in
       let o = sym mark-1 in
       let front-fit : allFit (frontFields 0x50 0x47 (ptsOf x) (dtsOf x) (kindOf x)) ≡ true
-          = (λ i. allFit (frontFields (m i) (o i) (ptsOf x) (dtsOf x) (kindOf x))) ∙ fit-fields frontWidths 0 x h (omega (arith, long)) in
+      = (λ i. allFit (frontFields (m i) (o i) (ptsOf x) (dtsOf x) (kindOf x))) ∙ fit-fields frontWidths 0 x h (omega (arith, long)) in
       let head : allFit (headFields (ptsOf x) (dtsOf x) (kindByte (bodyOf (segmentType x) (bodyAt x))) (length (bodyBytes (bodyOf (segmentType x) (bodyAt x))))) ≡ true
-          = (λ i. allFit (headFields (ptsOf x) (dtsOf x) (kind-is i) (encoded-length i)))
-          ∙ fit-append (frontFields 0x50 0x47 (ptsOf x) (dtsOf x) (kindOf x)) ((2, n) ∷ []) front-fit (simp (lt-ltb n (256 ^ 2) small)) in
+      = (λ i. allFit (headFields (ptsOf x) (dtsOf x) (kind-is i) (encoded-length i)))
+      ∙ fit-append (frontFields 0x50 0x47 (ptsOf x) (dtsOf x) (kindOf x)) ((2, n) ∷ []) front-fit (simp (lt-ltb n (256 ^ 2) small)) in
       ap (λ (t : Bool). pick t (bodyWritable (bodyOf (segmentType x) (bodyAt x))) false) head ∙ body-fine
 
 -- fields that can be written, encoded and read again, whatever follows
@@ -225,7 +229,7 @@ module _ (f : SegmentFields) (ok : writable f ≡ true) (r : List ℕ) where
   pub encode-fields : fieldsOf (encode f ++ r) ≡ f
   encode-fields =
       let b : bodyOf (segmentType (encode f ++ r)) (bodyAt (encode f ++ r)) ≡ f .body
-          = (λ i. bodyOf (encode-type i) (encode-body i)) ∙ again .same in
+      = (λ i. bodyOf (encode-type i) (encode-body i)) ∙ again .same in
       let p : ptsOf (encode f ++ r) ≡ f .pts = ap (λ (n : List ℕ). getD n 2 0) numbers in
       let d : dtsOf (encode f ++ r) ≡ f .dts = ap (λ (n : List ℕ). getD n 3 0) numbers in
       λ i. record { pts = p i; dts = d i; body = b i }

@@ -63,9 +63,9 @@ read-pcs p ps e =
     let list : drop 11 b ≡ recordBytes placementFields ps = drop-at (written fs) (recordBytes placementFields ps) 11 (length-written fs) in
     let long : 11 ≤ length b = rw (length-append, length-written fs) (omega arith) in
     let fits : recordsFit placementSize (placementCount b) (drop 11 b) ≡ true
-        = (λ i. recordsFit placementSize (count i) (list i)) ∙ alone-fit placementFields placementOf placementSize placementWritable placement-read ps all in
+    = (λ i. recordsFit placementSize (count i) (list i)) ∙ alone-fit placementFields placementOf placementSize placementWritable placement-read ps all in
     let placed : placementsOf b ≡ ps
-        = (λ i. records placementOf placementSize (count i) (list i)) ∙ alone placementFields placementOf placementSize placementWritable placement-read ps all in
+    = (λ i. records placementOf placementSize (count i) (list i)) ∙ alone placementFields placementOf placementSize placementWritable placement-read ps all in
     let head : pcsOf b ≡ p = ap made numbers in
     record { taken = simp (le-leb 11 (length b) long, fits); same = λ i. pcs (head i) (placed i) }
   where
@@ -78,7 +78,7 @@ read-pcs p ps e =
           «composition_number» = getD n 3 0;
           «composition_state» = getD n 4 0;
           «palette_update_flag» = getD n 5 0;
-          «palette_id» = getD n 6 0
+          «palette_id» = getD n 6 0;
         }
 
 read-wds : (ws : List Window) → bodyWritable (wds ws) ≡ true → ReadBody kinds.Wds (wds ws)
@@ -93,9 +93,9 @@ read-wds ws e =
     let list : drop 1 b ≡ recordBytes windowFields ws = refl in
     let long : 1 ≤ length b = omega arith in
     let fits : recordsFit windowSize (windowCount b) (drop 1 b) ≡ true
-        = (λ i. recordsFit windowSize (count i) (list i)) ∙ alone-fit windowFields windowOf windowSize test window-read ws all in
+    = (λ i. recordsFit windowSize (count i) (list i)) ∙ alone-fit windowFields windowOf windowSize test window-read ws all in
     let placed : windowsOf b ≡ ws
-        = (λ i. records windowOf windowSize (count i) (list i)) ∙ alone windowFields windowOf windowSize test window-read ws all in
+    = (λ i. records windowOf windowSize (count i) (list i)) ∙ alone windowFields windowOf windowSize test window-read ws all in
     record { taken = simp (le-leb 1 (length b) long, fits); same = λ i. wds (placed i) }
 
 -- entries take 5 bytes each
@@ -116,11 +116,11 @@ read-pds p es e =
     let whole : (length b - 2) % 5 ≡ 0 = omega arith in
     let list : drop 2 b ≡ recordBytes entryFields es = drop-at (written fs) (recordBytes entryFields es) 2 (length-written fs) in
     let placed : entriesOf b ≡ es
-        = (λ i. records entryOf entrySize (count i) (list i)) ∙ alone entryFields entryOf entrySize test entry-read es all in
+    = (λ i. records entryOf entrySize (count i) (list i)) ∙ alone entryFields entryOf entrySize test entry-read es all in
     let head : pdsOf b ≡ p = ap made numbers in
     record {
       taken = simp (le-leb 2 (length b) (omega arith), eq-eqb ((length b - 2) % 5) 0 whole);
-      same = λ i. pds (head i) (placed i)
+      same = λ i. pds (head i) (placed i);
     }
   where
     made : List ℕ → Pds
@@ -131,10 +131,13 @@ read-ods o d e = go (o .dimensions) refl
   where
     test : Bool
     test = isFirst (fragmentOf (o .«last_in_sequence_flag»))
+
     agrees : dimensionsWhere (isFirst (fragmentOf (o .«last_in_sequence_flag»))) (o .dimensions) ≡ true
     agrees = first-fits (dimensionsWhere (isFirst (fragmentOf (o .«last_in_sequence_flag»))) (o .dimensions)) (allFit (odsFields o)) e
+
     fit : allFit (odsFields o) ≡ true
     fit = rest-fits (dimensionsWhere (isFirst (fragmentOf (o .«last_in_sequence_flag»))) (o .dimensions)) (allFit (odsFields o)) e
+
     base : Dimensions → List Field
     base x =
         (2, o .«object_id»)
@@ -142,6 +145,7 @@ read-ods o d e = go (o .dimensions) refl
         ∷ (1, o .«last_in_sequence_flag»)
         ∷ (3, o .«object_data_length»)
         ∷ dimensionFields x
+
     made : List ℕ → Dimensions → Ods
     made n x =
         record {
@@ -149,12 +153,15 @@ read-ods o d e = go (o .dimensions) refl
           «object_version_number» = getD n 1 0;
           «last_in_sequence_flag» = getD n 2 0;
           «object_data_length» = getD n 3 0;
-          dimensions = x
+          dimensions = x;
         }
+
     Taken : List Field → Type 0
     Taken fs = odsVerdict (written fs ++ d) ≡ accepted
+
     Same : List Field → Type 0
     Same fs = _≡_ {A = BodyFields} (ods (odsOf (written fs ++ d)) (odsData (written fs ++ d))) (ods o d)
+
     go : (x : Dimensions) → o .dimensions ≡ x → ReadBody kinds.Ods (ods o d)
     go Absent q =
         let fs = base Absent in
