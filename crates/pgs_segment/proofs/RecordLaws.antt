@@ -29,11 +29,11 @@ map-records g f size (suc n) l = ap (λ (t : List _). g (f l) ∷ t) (map-record
 pub rows-length : {A B : Type 0} (g : A → B) (f : List ℕ → A) (size : List ℕ → ℕ) (n : ℕ) (l : List ℕ) → length (map g (records f size n l)) ≡ n
 rows-length g f size n l = length-map (records f size n l) g ∙ records-length f size n l
 
-first-fits : (b r : Bool) → pick b r false ≡ true → b ≡ true
+pub first-fits : (b r : Bool) → pick b r false ≡ true → b ≡ true
 first-fits true r e = refl
 first-fits false r e = e
 
-rest-fits : (b r : Bool) → pick b r false ≡ true → r ≡ true
+pub rest-fits : (b r : Bool) → pick b r false ≡ true → r ≡ true
 rest-fits true r e = e
 rest-fits false r e = absurd-bool e
   where
