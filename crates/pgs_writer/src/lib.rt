@@ -1,1 +1,1 @@
-// The writer
+// The writer (01, module 5). Its definitions and what is proved of them stand in specs/ and proofs/.
