@@ -1,0 +1,5 @@
+pub mod Places
+pub mod OneCode
+pub mod AllCodes
+pub mod BitmapSteps
+pub mod BitmapArea

@@ -1,0 +1,4 @@
+pub mod RunLength
+pub mod Bitmap
+pub mod Decoding
+pub mod NextCode
