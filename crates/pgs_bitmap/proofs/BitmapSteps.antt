@@ -1,15 +1,18 @@
 -- Reading a bitmap from a place of its data on: one law for each thing that can stand there.
 -- Assumes nothing.
 use mathlib.Core.Path.{_≡_, refl, _∙_, sym, ap}
+use mathlib.Core.Bool.{true, false}
 use mathlib.Core.List.{List, [], _∷_, _++_}
-use Prim.Native.Nat.{ℕ, _+_, _≤_, _<_}
-use lib.ListN.{length, drop, replicate}
+use Prim.Native.Nat.{ℕ, _+_, _-_, _≤_, _<_}
+use native.Mathlib.Omega.{arith}
+use lib.ListN.{length, drop, replicate, length-drop}
 use lib.Seq.{drop-drop}
 use borrow.Author.Tests.{le-leb, lt-leb, lt-ltb, le-ltb, eq-eqb, ne-eqb}
-use Rattle.pgs_base.specs.Outcome.{refused}
+use lib.Dec.{eqb}
+use Rattle.pgs_base.specs.Outcome.{Verdict, refused, unless}
 use Rattle.pgs_bitmap.specs.RunLength.{Code, run, lineEnd, FirstCode, none, found, truncated, codeOf, Codes, andFurther, codesOf, pixelsOf}
-use Rattle.pgs_bitmap.specs.Bitmap.{Reading, counted, stopped, atEnd, readFrom, readOn, bitmapOf}
-use Rattle.pgs_bitmap.proofs.AllCodes.{codes-are}
+use Rattle.pgs_bitmap.specs.Bitmap.{Reading, counted, stopped, lastLineCounts, atEnd, readFrom, readOn, readingOf, bitmapOf}
+use Rattle.pgs_bitmap.proofs.AllCodes.{taken-bounds, codes-are}
 use Rattle.pgs_bitmap.proofs.Places.{left-none}
 
 -- a code stands at the place: the codes from there on, and what comes of them
@@ -65,3 +68,78 @@ module _ (l : List ℕ) (at : ℕ) where
 
   pub pixels-end : length l ≤ at → bitmapOf (drop at l) ≡ []
   pixels-end h = ap (λ (all : Codes). pixelsOf (all .codes)) (codes-are (drop at l) none (ap codeOf (left-none l at h)))
+
+-- what a code at the place took of the data
+pub taken-at : (l : List ℕ) (at : ℕ) {code : Code} {n : ℕ} → at ≤ length l → codeOf (drop at l) ≡ found code n
+    → (0 < n) × (at + n ≤ length l)
+taken-at l at within e =
+    let b = taken-bounds (drop at l) e in
+    (b .0, omega (arith, length-drop at l, b .1))
+
+-- the tests of the end
+module _ (width height lines column : ℕ) where
+  pub end-last-line : lastLineCounts width column ≡ true → atEnd width height lines column ≡ unless 32 (eqb (lines + 1) height)
+  end-last-line e = rw e
+
+  pub end-partial : lastLineCounts width column ≡ false → (column ≡ 0 → ⊥) → atEnd width height lines column ≡ refused 31
+  end-partial e h = rw (e, ne-eqb _ _ h)
+
+  pub end-plain : lastLineCounts width column ≡ false → column ≡ 0 → atEnd width height lines column ≡ unless 32 (eqb lines height)
+  end-plain e h = rw (e, eq-eqb _ _ h)
+
+-- The check has come to a place, with so many lines ended and so many pixels after them: reading on from there comes to what
+-- reading all comes to.
+pub record Reached (l : List ℕ) (width height lines column at : ℕ) : Type 0 where
+  pub within : at ≤ length l
+  pub few : lines ≤ height
+  pub narrow : column ≤ width
+  pub same : readOn width height lines column (drop at l) .verdict ≡ readingOf l width height .verdict
+
+pub reached-start : (l : List ℕ) (width height : ℕ) → Reached l width height 0 0 0
+reached-start l width height = record { within = omega arith; few = omega arith; narrow = omega arith; same = refl }
+
+module _ {l : List ℕ} {width height lines column at : ℕ} where
+  pub reached-run : {count color n : ℕ} → Reached l width height lines column at → codeOf (drop at l) ≡ found (run count color) n
+      → column + count ≤ width → Reached l width height lines (column + count) (at + n)
+  reached-run r e h =
+      record {
+        within = taken-at l at (r .within) e .1;
+        few = r .few;
+        narrow = h;
+        same = sym (ap (λ (x : Reading). x .verdict) (read-run width height lines column l at e h)) ∙ r .same;
+      }
+
+  pub reached-line : {n : ℕ} → Reached l width height lines column at → codeOf (drop at l) ≡ found lineEnd n
+      → column ≡ width → lines < height → Reached l width height (lines + 1) 0 (at + n)
+  reached-line r e h k =
+      record {
+        within = taken-at l at (r .within) e .1;
+        few = omega arith;
+        narrow = omega arith;
+        same = sym (ap (λ (x : Reading). x .verdict) (read-line width height lines column l at e h k)) ∙ r .same;
+      }
+
+  -- what stops the reading at the place is what the whole comes to
+  stops : {v : Verdict} → Reached l width height lines column at → readOn width height lines column (drop at l) ≡ stopped v
+      → v ≡ readingOf l width height .verdict
+  stops r e = sym (ap (λ (x : Reading). x .verdict) e) ∙ r .same
+
+  pub reached-overrun : {count color n : ℕ} → Reached l width height lines column at → codeOf (drop at l) ≡ found (run count color) n
+      → width < column + count → refused 24 ≡ readingOf l width height .verdict
+  reached-overrun r e h = stops r (read-overrun width height lines column l at e h)
+
+  pub reached-short-line : {n : ℕ} → Reached l width height lines column at → codeOf (drop at l) ≡ found lineEnd n
+      → (column ≡ width → ⊥) → refused 29 ≡ readingOf l width height .verdict
+  reached-short-line r e h = stops r (read-short-line width height lines column l at e h)
+
+  pub reached-extra-line : {n : ℕ} → Reached l width height lines column at → codeOf (drop at l) ≡ found lineEnd n
+      → column ≡ width → height ≤ lines → refused 30 ≡ readingOf l width height .verdict
+  reached-extra-line r e h k = stops r (read-extra-line width height lines column l at e h k)
+
+  pub reached-truncated : {k : ℕ} → Reached l width height lines column at → codeOf (drop at l) ≡ truncated k
+      → refused k ≡ readingOf l width height .verdict
+  reached-truncated r e = stops r (read-truncated width height lines column l at e)
+
+  pub reached-end : Reached l width height lines column at → length l ≤ at
+      → atEnd width height lines column ≡ readingOf l width height .verdict
+  reached-end r h = stops r (read-end width height lines column l at h)

@@ -1,8 +1,140 @@
-// A bitmap from its run-length code.
+// A bitmap from its run-length code: lines of exactly width pixels, height of them.
+use crate::code::NextCode;
+use crate::code::code_at;
 use pgs_base::refusal::Refusal;
+ghost use mathlib.Core.Path.{_≡_};
+ghost use mathlib.Core.List.{_++_};
+ghost use Prim.Native.Nat.{_+_, _≤_, _<_};
+ghost use lib.ListN.{length, take, drop, replicate};
+ghost use Rattle.pgs_base.specs.Outcome.{unless};
+ghost use lib.Dec.{eqb};
+ghost use Rattle.pgs_bitmap.specs.Bitmap.{lastLineCounts, atEnd, readingOf, bitmapOf};
+ghost use Rattle.pgs_bitmap.specs.Decoding.{outcome, Decoding};
 
 // What reading a bitmap comes to.
 pub enum Decoded {
     Accepted,
     Refused(Refusal),
+}
+
+// An unterminated line of width pixels counts if the width is not 0.
+fn last_line_counts(width: usize, column: usize) -> bool
+    ensures { λ r. ⌜ r ≡ lastLineCounts width column ⌝ }
+{
+    column == width && width != 0
+}
+
+fn line_count(lines: usize, height: usize) -> Decoded
+    ensures { λ r. ⌜ outcome r ≡ unless 32 (eqb lines height) ⌝ }
+{
+    if lines != height {
+        return Decoded::Refused(Refusal::LineCountMismatch);
+    }
+    Decoded::Accepted
+}
+
+// The end of the data, with so many lines ended and so many pixels after them.
+fn end_of_data(width: usize, height: usize, lines: usize, column: usize) -> Decoded
+    requires { ⌜ (lines ≤ height) × (height < 65536) ⌝ }
+    ensures { λ r. ⌜ outcome r ≡ atEnd width height lines column ⌝ }
+{
+    if last_line_counts(width, column) {
+        return line_count(lines + 1, height);
+    }
+    if column != 0 {
+        return Decoded::Refused(Refusal::PartialLastLine);
+    }
+    line_count(lines, height)
+}
+
+// Reads a bitmap through without storing it.
+pub fn check_rle(data: &[u8], width: u16, height: u16) -> Decoded
+    ensures { λ r. ⌜ outcome r ≡ readingOf (now («data» .entry)) width height .verdict ⌝ }
+{
+    let w = width as usize;
+    let h = height as usize;
+    let mut lines: usize = 0;
+    let mut column: usize = 0;
+    let mut at: usize = 0;
+    while at < data.len() {
+        let code = code_at(data, at);
+        match code {
+            NextCode::Run { count, color: _, taken } => {
+                if w - column < count {
+                    return Decoded::Refused(Refusal::RunPastWidth);
+                }
+                column += count;
+                at += taken;
+            }
+            NextCode::LineEnd => {
+                if column != w {
+                    return Decoded::Refused(Refusal::ShortLine);
+                }
+                if h <= lines {
+                    return Decoded::Refused(Refusal::TooManyLines);
+                }
+                lines += 1;
+                column = 0;
+                at += 2;
+            }
+            NextCode::Truncated(why) => {
+                return Decoded::Refused(why);
+            }
+        }
+    }
+    end_of_data(w, h, lines, column)
+}
+
+// Fills a run of pixels.
+fn fill(pixels: &mut [u8], from: usize, count: usize, color: u8)
+    requires { ⌜ from + count ≤ length (now pixels) ⌝ }
+    ensures { λ _. ⌜ now (pixels .exit) ≡ take from (now (pixels .entry)) ++ (replicate count color ++ drop count (drop from (now (pixels .entry)))) ⌝ }
+{
+    let end = from + count;
+    let mut i = from;
+    while i < end {
+        pixels[i] = color;
+        i += 1;
+    }
+}
+
+// Stores the pixels of the codes, for which there is room.
+fn store_rle(data: &[u8], pixels: &mut [u8])
+    requires { ⌜ length (bitmapOf (now «data»)) ≤ length (now pixels) ⌝ }
+    ensures { λ _. ⌜ now (pixels .exit) ≡ bitmapOf (now («data» .entry)) ++ drop (length (bitmapOf (now («data» .entry)))) (now (pixels .entry)) ⌝ }
+{
+    let mut at: usize = 0;
+    let mut out: usize = 0;
+    while at < data.len() {
+        let code = code_at(data, at);
+        match code {
+            NextCode::Run { count, color, taken } => {
+                fill(pixels, out, count, color);
+                out += count;
+                at += taken;
+            }
+            NextCode::LineEnd => {
+                at += 2;
+            }
+            NextCode::Truncated(_) => {
+                return;
+            }
+        }
+    }
+}
+
+// Reads a bitmap into the first width times height pixels.
+pub fn decode_rle(data: &[u8], width: u16, height: u16, pixels: &mut [u8]) -> Decoded
+    ensures { λ r. ⌜ Decoding (now («data» .entry)) width height (now (pixels .entry)) r (now (pixels .exit)) ⌝ }
+{
+    let checked = check_rle(data, width, height);
+    let Decoded::Accepted = checked else {
+        return checked;
+    };
+    let need = (width as usize) * (height as usize);
+    if pixels.len() < need {
+        return Decoded::Refused(Refusal::BufferTooSmall);
+    }
+    store_rle(data, pixels);
+    Decoded::Accepted
 }

@@ -89,7 +89,7 @@ fn run_at(data: &[u8], at: usize, second: u8) -> NextCode
 }
 
 // The code whose first byte, before this place, is 00.
-pub fn escape_at(data: &[u8], at: usize) -> NextCode
+fn escape_at(data: &[u8], at: usize) -> NextCode
     ensures { λ r. ⌜ firstCode r ≡ escapeOf (drop at (now («data» .entry))) ⌝ }
 {
     if data.len() <= at {
@@ -100,4 +100,20 @@ pub fn escape_at(data: &[u8], at: usize) -> NextCode
         return NextCode::LineEnd;
     }
     run_at(data, at + 1, second)
+}
+
+// The code at a place of the data.
+pub fn code_at(data: &[u8], at: usize) -> NextCode
+    requires { ⌜ at < length (now «data») ⌝ }
+    ensures { λ r. ⌜ firstCode r ≡ codeOf (drop at (now («data» .entry))) ⌝ }
+{
+    let b = data[at];
+    if b == 0 {
+        return escape_at(data, at + 1);
+    }
+    NextCode::Run {
+        count: 1,
+        color: b,
+        taken: 1,
+    }
 }
