@@ -57,7 +57,7 @@ module _ (width height : ℕ) where
   -- one run, and one line end, before codes that keep the area
   run-area : (lines column count color : ℕ) (codes : List Code) (ended : Verdict) (t : Bool)
       → (readFrom width height lines (column + count) codes ended .verdict ≡ accepted
-          → lines * width + (column + count) + length (pixelsOf codes) ≡ height * width)
+      → lines * width + (column + count) + length (pixelsOf codes) ≡ height * width)
       → pick t (counted (readFrom width height lines (column + count) codes ended)) (stopped (refused 24)) .verdict ≡ accepted
       → lines * width + column + length (replicate count color ++ pixelsOf codes) ≡ height * width
   run-area lines column count color codes ended true later e = rw (length-append, length-replicate) (omega (arith, later e))
@@ -65,7 +65,7 @@ module _ (width height : ℕ) where
 
   line-area : (lines column : ℕ) (codes : List Code) (ended : Verdict) (t u : Bool) → eqb column width ≡ t
       → (readFrom width height (lines + 1) 0 codes ended .verdict ≡ accepted
-          → (lines + 1) * width + 0 + length (pixelsOf codes) ≡ height * width)
+      → (lines + 1) * width + 0 + length (pixelsOf codes) ≡ height * width)
       → pick t (pick u (counted (readFrom width height (lines + 1) 0 codes ended)) (stopped (refused 30))) (stopped (refused 29)) .verdict ≡ accepted
       → lines * width + column + length (pixelsOf codes) ≡ height * width
   line-area lines column codes ended true true full later e = omega (arith, later e, one-line lines, eqb-true column width full)

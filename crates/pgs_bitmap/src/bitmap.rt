@@ -59,7 +59,11 @@ pub fn check_rle(data: &[u8], width: u16, height: u16) -> Decoded
     while at < data.len() {
         let code = code_at(data, at);
         match code {
-            NextCode::Run { count, color: _, taken } => {
+            NextCode::Run {
+                count,
+                color: _,
+                taken,
+            } => {
                 if w - column < count {
                     return Decoded::Refused(Refusal::RunPastWidth);
                 }
@@ -108,7 +112,11 @@ fn store_rle(data: &[u8], pixels: &mut [u8])
     while at < data.len() {
         let code = code_at(data, at);
         match code {
-            NextCode::Run { count, color, taken } => {
+            NextCode::Run {
+                count,
+                color,
+                taken,
+            } => {
                 fill(pixels, out, count, color);
                 out += count;
                 at += taken;

@@ -8,7 +8,11 @@ ghost use Rattle.pgs_bitmap.specs.NextCode.{firstCode};
 
 // The code at a place of the data, with the number of bytes that it took, or why it is none.
 pub enum NextCode {
-    Run { count: usize, color: u8, taken: usize },
+    Run {
+        count: usize,
+        color: u8,
+        taken: usize,
+    },
     LineEnd,
     Truncated(Refusal),
 }

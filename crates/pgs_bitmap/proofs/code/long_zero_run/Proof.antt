@@ -22,7 +22,7 @@ add-t10 : tie.Need-add-t10
 add-t10 c = search needs
 
 returns-2 : tie.Need-returns-2
-returns-2 c = 
+returns-2 c =
     ap (λ (x : ℕ). found (run (256 * c .before .before .before .before .args .low + x) 0) 3) (c .wide .ensures .0)
     ∙ at-some (longZeroRun (c .before .before .before .before .args .low)) _ _ (c .before .before .if1 .left)
 
