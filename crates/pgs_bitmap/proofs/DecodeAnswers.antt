@@ -6,7 +6,8 @@ use Prim.Native.Nat.{ℕ, _*_, _≤_, _<_, _^_}
 use native.Mathlib.Nat.{mul-le-mul}
 use native.Mathlib.Omega.{arith}
 use lib.Dec.{leb}
-use lib.ListN.{length, drop}
+use lib.ListN.{length, take, drop}
+use lib.Seq.{length-take-le}
 use borrow.Author.Tests.{le-leb, lt-leb}
 use Rattle.pgs_base.specs.Outcome.{Verdict, accepted, refused, andThen, unless}
 use Rattle.pgs_base.specs.declared.refusal.Refusal.the-variants.{BufferTooSmall}
@@ -47,10 +48,14 @@ module _ (bytes : List ℕ) (width height : ℕ) (before : List ℕ) where
       → Decoding bytes width height before (Refused BufferTooSmall) before
   too-small e h = answer (Refused BufferTooSmall) before (refused 34) (verdict-is accepted e ∙ ap (unless 34) (lt-leb _ _ h)) refl refl
 
-  -- there is room for the bitmap
-  pub room-for-bitmap : accepted ≡ readingOf bytes width height .verdict → width * height ≤ length before → length (bitmapOf bytes) ≤ length before
-  room-for-bitmap e h = rw (bitmap-area bytes width height (sym e)) h
+  -- the bitmap fills the part that is lent for it
+  pub part-fits : accepted ≡ readingOf bytes width height .verdict → width * height ≤ length before
+      → length (take (width * height) before) ≡ length (bitmapOf bytes)
+  part-fits e h = length-take-le (width * height) before h ∙ sym (bitmap-area bytes width height (sym e))
 
-  pub stored-bitmap : (after : List ℕ) → accepted ≡ readingOf bytes width height .verdict → width * height ≤ length before
-      → after ≡ bitmapOf bytes ++ drop (length (bitmapOf bytes)) before → Decoding bytes width height before Accepted after
-  stored-bitmap after e h s = answer Accepted after accepted (verdict-is accepted e ∙ ap (unless 34) (le-leb _ _ h)) refl s
+  -- the part comes back with the bitmap
+  pub stored-bitmap : (part : List ℕ) → accepted ≡ readingOf bytes width height .verdict → width * height ≤ length before
+      → part ≡ bitmapOf bytes → Decoding bytes width height before Accepted (part ++ drop (width * height) before)
+  stored-bitmap part e h is =
+      answer Accepted (part ++ drop (width * height) before) accepted (verdict-is accepted e ∙ ap (unless 34) (le-leb _ _ h)) refl
+      (rw (is, bitmap-area bytes width height (sym e)))

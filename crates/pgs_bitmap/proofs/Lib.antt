@@ -6,3 +6,4 @@ pub mod BitmapArea
 pub mod RunFill
 pub mod BitmapStores
 pub mod DecodeAnswers
+pub mod LiteralStretch

@@ -1,6 +1,7 @@
 // A bitmap from its run-length code: lines of exactly width pixels, height of them.
 use crate::code::NextCode;
 use crate::code::code_at;
+use crate::code::literals_by_eight;
 use pgs_base::refusal::Refusal;
 ghost use mathlib.Core.Path.{_≡_};
 ghost use mathlib.Core.List.{_++_};
@@ -47,15 +48,29 @@ fn end_of_data(width: usize, height: usize, lines: usize, column: usize) -> Deco
     line_count(lines, height)
 }
 
-// Reads a bitmap through without storing it.
-pub fn check_rle(data: &[u8], width: u16, height: u16) -> Decoded
+fn least(a: usize, b: usize) -> usize
+    ensures { λ r. ⌜ (r ≤ a) × (r ≤ b) ⌝ }
+{
+    if a < b { a } else { b }
+}
+
+// How many codes of one byte stand in a row, after one more code that took so many bytes.
+fn in_a_row(before: usize, taken: usize) -> usize
+    requires { ⌜ before < 8 ⌝ }
+    ensures { λ r. ⌜ r ≤ 8 ⌝ }
+{
+    if taken == 1 { before + 1 } else { 0 }
+}
+
+// Reads the codes through. After eight codes of one byte in a row it looks for more of them by eights.
+fn check_codes(data: &[u8], width: usize, height: usize) -> Decoded
+    requires { ⌜ height < 65536 ⌝ }
     ensures { λ r. ⌜ outcome r ≡ readingOf (now («data» .entry)) width height .verdict ⌝ }
 {
-    let w = width as usize;
-    let h = height as usize;
     let mut lines: usize = 0;
     let mut column: usize = 0;
     let mut at: usize = 0;
+    let mut literals: usize = 0;
     while at < data.len() {
         let code = code_at(data, at);
         match code {
@@ -64,48 +79,81 @@ pub fn check_rle(data: &[u8], width: u16, height: u16) -> Decoded
                 color: _,
                 taken,
             } => {
-                if w - column < count {
+                if width - column < count {
                     return Decoded::Refused(Refusal::RunPastWidth);
                 }
                 column += count;
                 at += taken;
+                literals = in_a_row(literals, taken);
+                if literals == 8 {
+                    let more = literals_by_eight(data, at, least(width - column, data.len() - at));
+                    column += more;
+                    at += more;
+                    literals = 0;
+                }
             }
             NextCode::LineEnd => {
-                if column != w {
+                if column != width {
                     return Decoded::Refused(Refusal::ShortLine);
                 }
-                if h <= lines {
+                if height <= lines {
                     return Decoded::Refused(Refusal::TooManyLines);
                 }
                 lines += 1;
                 column = 0;
                 at += 2;
+                literals = 0;
             }
             NextCode::Truncated(why) => {
                 return Decoded::Refused(why);
             }
         }
     }
-    end_of_data(w, h, lines, column)
+    end_of_data(width, height, lines, column)
 }
 
-// Fills a run of pixels.
-fn fill(pixels: &mut [u8], from: usize, count: usize, color: u8)
+// Reads a bitmap through without storing it.
+pub fn check_rle(data: &[u8], width: u16, height: u16) -> Decoded
+    ensures { λ r. ⌜ outcome r ≡ readingOf (now («data» .entry)) width height .verdict ⌝ }
+{
+    check_codes(data, width as usize, height as usize)
+}
+
+// Fills a run of pixels and touches no other.
+fn fill_exactly(pixels: &mut [u8], from: usize, count: usize, color: u8)
     requires { ⌜ from + count ≤ length (now pixels) ⌝ }
     ensures { λ _. ⌜ now (pixels .exit) ≡ take from (now (pixels .entry)) ++ (replicate count color ++ drop count (drop from (now (pixels .entry)))) ⌝ }
 {
-    let end = from + count;
-    let mut i = from;
-    while i < end {
-        pixels[i] = color;
+    let mut i: usize = 0;
+    while i < count {
+        pixels[from + i] = color;
         i += 1;
     }
 }
 
-// Stores the pixels of the codes, for which there is room.
+// Fills a run of pixels; the pixels after it may change, and are stored later. A run of at most 64 is filled as one block of 64, which
+// takes the compiler four stores, where there is room for the block.
+fn fill(pixels: &mut [u8], from: usize, count: usize, color: u8)
+    requires { ⌜ from + count ≤ length (now pixels) ⌝ }
+    ensures { λ _. ⌜ take (from + count) (now (pixels .exit)) ≡ take from (now (pixels .entry)) ++ replicate count color ⌝ }
+{
+    if count == 1 {
+        pixels[from] = color;
+        return;
+    }
+    if count <= 64 {
+        if 64 <= pixels.len() - from {
+            fill_exactly(pixels, from, 64, color);
+            return;
+        }
+    }
+    fill_exactly(pixels, from, count, color);
+}
+
+// Stores the pixels of the codes, for which there is exactly room.
 fn store_rle(data: &[u8], pixels: &mut [u8])
-    requires { ⌜ length (bitmapOf (now «data»)) ≤ length (now pixels) ⌝ }
-    ensures { λ _. ⌜ now (pixels .exit) ≡ bitmapOf (now («data» .entry)) ++ drop (length (bitmapOf (now («data» .entry)))) (now (pixels .entry)) ⌝ }
+    requires { ⌜ length (now pixels) ≡ length (bitmapOf (now «data»)) ⌝ }
+    ensures { λ _. ⌜ now (pixels .exit) ≡ bitmapOf (now («data» .entry)) ⌝ }
 {
     let mut at: usize = 0;
     let mut out: usize = 0;
@@ -143,6 +191,6 @@ pub fn decode_rle(data: &[u8], width: u16, height: u16, pixels: &mut [u8]) -> De
     if pixels.len() < need {
         return Decoded::Refused(Refusal::BufferTooSmall);
     }
-    store_rle(data, pixels);
+    store_rle(data, &mut pixels[..need]);
     Decoded::Accepted
 }

@@ -1,10 +1,11 @@
 // One code of the run-length code.
 use pgs_base::refusal::Refusal;
 ghost use mathlib.Core.Path.{_≡_};
-ghost use Prim.Native.Nat.{_<_};
+ghost use mathlib.Core.Bool.{true};
+ghost use Prim.Native.Nat.{_+_, _≤_, _<_};
 ghost use lib.ListN.{length, drop};
 ghost use Rattle.pgs_bitmap.specs.RunLength.{codeOf, escapeOf, runOf, longZeroRun, shortColorRun, longColorRun};
-ghost use Rattle.pgs_bitmap.specs.NextCode.{firstCode};
+ghost use Rattle.pgs_bitmap.specs.NextCode.{firstCode, Literals};
 
 // The code at a place of the data, with the number of bytes that it took, or why it is none.
 pub enum NextCode {
@@ -120,4 +121,34 @@ pub fn code_at(data: &[u8], at: usize) -> NextCode
         color: b,
         taken: 1,
     }
+}
+
+// Whether the eight bytes from a place on are one pixel each. It tests them all, so that the compiler can test them at once.
+fn eight_literals(data: &[u8], at: usize) -> bool
+    requires { ⌜ at + 8 ≤ length (now «data») ⌝ }
+    ensures { λ r. ⌜ (r ≡ true → Literals (now («data» .entry)) at 8) ⌝ }
+{
+    let mut all = true;
+    let mut i: usize = 0;
+    while i < 8 {
+        all = all & (data[at + i] != 0);
+        i += 1;
+    }
+    all
+}
+
+// So many bytes from a place on, at most `most`, are one pixel each: counted by eights, up to an eight that has a byte 00.
+pub fn literals_by_eight(data: &[u8], at: usize, most: usize) -> usize
+    requires { ⌜ at + most ≤ length (now «data») ⌝ }
+    ensures { λ r. ⌜ (r ≤ most) × Literals (now («data» .entry)) at r ⌝ }
+{
+    let mut n: usize = 0;
+    while 8 <= most - n {
+        if eight_literals(data, at + n) {
+            n += 8;
+        } else {
+            return n;
+        }
+    }
+    n
 }

@@ -1,11 +1,12 @@
 -- `decode_rle` meets its contract: each answer follows from what the check found. Assumes nothing.
 use mathlib.Core.Path.{_≡_, _∙_, sym, ap}
+use lib.Seq.{length-take-le}
 use denote.Ref.{now}
+use borrow.Author.Needs.{needs}
 use Rattle.pgs_base.specs.Outcome.{accepted}
 use Rattle.pgs_bitmap.specs.Bitmap.{readingOf}
 use Rattle.pgs_bitmap.specs.Decoding.{outcome}
-use Rattle.pgs_bitmap.proofs.DecodeAnswers.{area-fits, refused-bitmap, too-small, room-for-bitmap, stored-bitmap}
-use borrow.Author.Needs.{needs}
+use Rattle.pgs_bitmap.proofs.DecodeAnswers.{area-fits, refused-bitmap, too-small, part-fits, stored-bitmap}
 use Rattle.pgs_bitmap.proofs.bitmap.decode_rle.Statement.{statement}
 use Rattle.pgs_bitmap.proofs.bitmap.decode_rle.Tie as tie
 
@@ -31,8 +32,14 @@ mul-need c = record { fits = area-fits (c .before .before .before .before .befor
 returns-2 : tie.Need-returns-2
 returns-2 c = too-small (now (c .before .before .before .before .before .before .args .«data»)) (c .before .before .before .before .before .before .args .width) (c .before .before .before .before .before .before .args .height) (now (c .before .before .before .before .before .before .args .pixels)) (accepts (c .before)) (c .if1 .taken)
 
+slice-relend-prefix-store-rle : tie.Need-slice-relend-prefix-store-rle
+slice-relend-prefix-store-rle c = search needs
+
+slice-aggregate-store-rle : tie.Need-slice-aggregate-store-rle
+slice-aggregate-store-rle c = sym (length-take-le _ _ (c .before .if1 .left))
+
 store-rle-requires : tie.Need-store-rle-requires
-store-rle-requires c κs = room-for-bitmap (now (c .before .before .before .before .before .before .before .args .«data»)) (c .before .before .before .before .before .before .before .args .width) (c .before .before .before .before .before .before .before .args .height) (now (c .before .before .before .before .before .before .before .args .pixels)) (accepts (c .before .before)) (c .before .if1 .left)
+store-rle-requires c κs = part-fits (now (c .before .before .before .before .before .before .before .args .«data»)) (c .before .before .before .before .before .before .before .args .width) (c .before .before .before .before .before .before .before .args .height) (now (c .before .before .before .before .before .before .before .args .pixels)) (accepts (c .before .before)) (c .before .if1 .left)
 
 same-length : tie.Need-same-length
 same-length c = search needs
@@ -50,6 +57,8 @@ decode-rle-spec =
     returns
     mul-need
     returns-2
+    slice-relend-prefix-store-rle
+    slice-aggregate-store-rle
     store-rle-requires
     same-length
     returns-3)

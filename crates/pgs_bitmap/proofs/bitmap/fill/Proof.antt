@@ -1,52 +1,53 @@
--- `fill` meets its contract. The loop's invariant: the run is stored up to the next cell. The measure is what is left of the run.
+-- `fill` meets its contract: a run of one is one store, and the run is the front of the block or the run that is filled.
 -- Assumes nothing.
-use Prim.Native.Nat.{_+_, _-_, _≤_}
 use native.Mathlib.Omega.{arith}
-use Rattle.pgs_bitmap.proofs.RunFill.{Filling, filling-begins, filling-stores, filling-ends}
+use denote.Ref.{now}
+use borrow.Author.Needs.{needs}
+use Rattle.pgs_bitmap.proofs.RunFill.{one-in-front, run-in-front}
 use Rattle.pgs_bitmap.proofs.bitmap.fill.Statement.{statement}
 use Rattle.pgs_bitmap.proofs.bitmap.fill.Tie as tie
 
-abbrev Inv-loop : tie.InvT-loop
-Inv-loop pixels₀ from count color end i₀ pixels i = (i ≤ from + count) × Filling pixels₀ from count color pixels i
+slice-write-pixels : tie.Need-slice-write-pixels
+slice-write-pixels c = search needs
 
-abbrev μ-loop : tie.MeasureT-loop
-μ-loop pixels₀ from count color end i₀ pixels i = from + count - i
+same-length : tie.Need-same-length
+same-length c = search needs
 
-add-end : tie.Need-add-end Inv-loop μ-loop
-add-end c = omega arith
+returns : tie.Need-returns
+returns c = one-in-front _ _ _ _ (c .if1 .taken) (omega arith)
 
-loop-holds : tie.Need-loop-holds Inv-loop μ-loop
-loop-holds c = (omega arith, filling-begins (c .args .pixels .now) (c .args .from) (c .args .count) (c .args .color) (c .pre))
+sub-if3 : tie.Need-sub-if3
+sub-if3 c = search needs
 
-slice-write-pixels : tie.Need-slice-write-pixels Inv-loop μ-loop
-slice-write-pixels c = omega arith
+fill-exactly-requires : tie.Need-fill-exactly-requires
+fill-exactly-requires c κs = search needs
 
-add-i : tie.Need-add-i Inv-loop μ-loop
-add-i c = omega arith
+same-length-2 : tie.Need-same-length-2
+same-length-2 c = search needs
 
-loop-less : tie.Need-loop-less Inv-loop μ-loop
-loop-less c = omega arith
+returns-2 : tie.Need-returns-2
+returns-2 c = run-in-front (now (c .before .before .before .before .before .before .before .before .args .pixels)) _ (c .before .before .before .before .before .before .before .before .args .from) (c .before .before .before .before .before .before .before .before .args .count) 64 _ (c .before .before .before .before .before .if2 .taken) (omega arith) (c .before .before .fill-exactly .ensures)
 
-loop-again : tie.Need-loop-again Inv-loop μ-loop
-loop-again c = (omega arith, filling-stores (c .before .before .args .pixels .now) (c .before .before .args .from) (c .before .before .args .count) (c .before .before .args .color) _ _ (c .before .loop .inv .1) (c .loop-test .taken) (omega arith))
+fill-exactly-requires-2 : tie.Need-fill-exactly-requires-2
+fill-exactly-requires-2 c κs = search needs
 
-same-length : tie.Need-same-length Inv-loop μ-loop
-same-length c = c .before .loop .inv .1 .same
+same-length-3 : tie.Need-same-length-3
+same-length-3 c = search needs
 
-returns : tie.Need-returns Inv-loop μ-loop
-returns c = filling-ends (c .before .before .args .pixels .now) (c .before .before .args .from) (c .before .before .args .count) (c .before .before .args .color) _ _ (c .before .before .pre) (c .before .loop .inv .1) (c .loop-test .left)
+returns-3 : tie.Need-returns-3
+returns-3 c = run-in-front (now (c .before .before .before .before .before .before .before .args .pixels)) _ (c .before .before .before .before .before .before .before .args .from) (c .before .before .before .before .before .before .before .args .count) (c .before .before .before .before .before .before .before .args .count) _ (omega arith) (omega arith) (c .before .before .fill-exactly2 .ensures)
 
 pub fill-spec : {M : Type 1} → statement M
 fill-spec =
     tie.close
     (tie.spec
-    Inv-loop
-    μ-loop
-    add-end
-    loop-holds
     slice-write-pixels
-    add-i
-    loop-less
-    loop-again
     same-length
-    returns)
+    returns
+    sub-if3
+    fill-exactly-requires
+    same-length-2
+    returns-2
+    fill-exactly-requires-2
+    same-length-3
+    returns-3)

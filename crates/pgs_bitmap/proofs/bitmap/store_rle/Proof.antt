@@ -14,7 +14,7 @@ use Rattle.pgs_bitmap.proofs.bitmap.store_rle.Statement.{statement}
 use Rattle.pgs_bitmap.proofs.bitmap.store_rle.Tie as tie
 
 abbrev Inv-loop : tie.InvT-loop
-Inv-loop «data» pixels₀ at₀ out₀ pixels at out = Storing «data» pixels₀ pixels at out
+Inv-loop «data» pixels₀ at₀ out₀ pixels at out = Storing «data» pixels at out
 
 abbrev μ-loop : tie.MeasureT-loop
 μ-loop «data» pixels₀ at₀ out₀ pixels at out = length «data» - at
@@ -29,7 +29,7 @@ line-end-here : (c : tie.After-enum-told Inv-loop μ-loop) → codeOf (drop (c .
 line-end-here c = sym (c .before .before .code-at .ensures) ∙ ap firstCode (c .enum-told .given .1)
 
 loop-holds : tie.Need-loop-holds Inv-loop μ-loop
-loop-holds c = storing-start _ _
+loop-holds c = storing-start _ _ (c .before .before .pre)
 
 code-at-requires : tie.Need-code-at-requires Inv-loop μ-loop
 code-at-requires c κs = search needs
@@ -38,10 +38,10 @@ enum-known-code : tie.Need-enum-known-code Inv-loop μ-loop
 enum-known-code c = search needs
 
 fill-requires : tie.Need-fill-requires Inv-loop μ-loop
-fill-requires c κs = storing-room (c .before .before .before .before .before .before .loop .inv) (run-here (c .before)) (c .before .before .before .before .before .before .before .before .before .pre)
+fill-requires c κs = storing-room (c .before .before .before .before .before .before .loop .inv) (run-here (c .before))
 
 add-out : tie.Need-add-out Inv-loop μ-loop
-add-out c = omega (arith, storing-room (c .before .before .before .before .before .before .before .before .before .loop .inv) (run-here (c .before .before .before .before)) (c .before .before .before .before .before .before .before .before .before .before .before .before .pre), c .before .before .before .before .before .before .before .before .before .loop .inv .front .same)
+add-out c = omega (arith, storing-room (c .before .before .before .before .before .before .before .before .before .loop .inv) (run-here (c .before .before .before .before)), c .before .before .before .before .before .before .before .before .before .loop .inv .size, c .before .before .before .before .before .before .before .before .before .before .before .before .pre)
 
 add-at : tie.Need-add-at Inv-loop μ-loop
 add-at c = omega (arith, taken-at _ _ (c .before .before .before .before .before .before .before .before .before .loop .inv .within) (run-here (c .before .before .before .before)) .1)
@@ -50,7 +50,7 @@ loop-less : tie.Need-loop-less Inv-loop μ-loop
 loop-less c = omega (arith, taken-at _ _ (c .before .before .before .before .before .before .before .before .before .loop .inv .within) (run-here (c .before .before .before .before)) .0, taken-at _ _ (c .before .before .before .before .before .before .before .before .before .loop .inv .within) (run-here (c .before .before .before .before)) .1)
 
 loop-again : tie.Need-loop-again Inv-loop μ-loop
-loop-again c = storing-run (c .before .before .before .before .before .before .before .before .before .loop .inv) _ (run-here (c .before .before .before .before)) (storing-room (c .before .before .before .before .before .before .before .before .before .loop .inv) (run-here (c .before .before .before .before)) (c .before .before .before .before .before .before .before .before .before .before .before .before .pre)) (c .before .before .fill .ensures)
+loop-again c = storing-run (c .before .before .before .before .before .before .before .before .before .loop .inv) _ (run-here (c .before .before .before .before)) (c .before .before .fill .kept .0) (c .before .before .fill .ensures)
 
 enum-told : tie.Need-enum-told Inv-loop μ-loop
 enum-told c = search needs
@@ -68,13 +68,13 @@ enum-told-2 : tie.Need-enum-told-2 Inv-loop μ-loop
 enum-told-2 c = search needs
 
 same-length : tie.Need-same-length Inv-loop μ-loop
-same-length c = c .before .before .before .before .loop .inv .front .same
+same-length c = c .before .before .before .before .loop .inv .size ∙ sym (c .before .before .before .before .before .before .before .pre)
 
 returns : tie.Need-returns Inv-loop μ-loop
 returns c = storing-truncated (c .before .before .before .before .loop .inv) (sym (c .before .before .code-at .ensures) ∙ ap firstCode (c .enum-told2 .given .1))
 
 same-length-2 : tie.Need-same-length-2 Inv-loop μ-loop
-same-length-2 c = c .before .loop .inv .front .same
+same-length-2 c = c .before .loop .inv .size ∙ sym (c .before .before .before .before .pre)
 
 returns-2 : tie.Need-returns-2 Inv-loop μ-loop
 returns-2 c = storing-end (c .before .loop .inv) (c .loop-test .left)
