@@ -4,10 +4,12 @@ use mathlib.Core.Path.{_≡_, refl, sym, ap, _∙_}
 use mathlib.Core.List.{List, [], _∷_, _++_, append-assoc, append-nil}
 use Prim.Native.Nat.{ℕ, _+_, _≤_, _<_}
 use native.Mathlib.Omega.{arith}
-use lib.ListN.{length, take, drop, replicate, length-append, length-replicate}
+use lib.ListN.{length, getD, take, drop, set, replicate, length-append, length-replicate, length-set}
 use lib.Seq.{length-take-le, take-all}
 use Rattle.pgs_bitmap.specs.RunLength.{run, lineEnd, found, truncated, codeOf}
 use Rattle.pgs_bitmap.specs.Bitmap.{bitmapOf}
+use Rattle.pgs_bitmap.proofs.OneCode.{code-pixel}
+use Rattle.pgs_bitmap.proofs.RunFill.{one-in-front}
 use Rattle.pgs_bitmap.proofs.BitmapSteps.{taken-at, pixels-run, pixels-line, pixels-truncated, pixels-end}
 
 -- The pixels of the codes before a place are stored at the front; those from the place on are still to come.
@@ -37,6 +39,15 @@ module _ {l now : List ℕ} {at out : ℕ} (s : Storing l now at out) where
         inside = rw same (storing-room e);
         done = rw (is, append-assoc, ← pixels-run l at e) (s .done);
       }
+
+  -- one pixel by itself
+  pub storing-pixel-room : at < length l → (getD l at 0 ≡ 0 → ⊥) → out < length now
+  storing-pixel-room here nonzero = omega (arith, storing-room (code-pixel l at here nonzero))
+
+  pub storing-pixel : at < length l → (getD l at 0 ≡ 0 → ⊥) → Storing l (set now out (getD l at 0)) (at + 1) (out + 1)
+  storing-pixel here nonzero =
+      storing-run (set now out (getD l at 0)) (code-pixel l at here nonzero) (length-set now out (getD l at 0))
+      (one-in-front now out (getD l at 0) (storing-pixel-room here nonzero))
 
   pub storing-line : {n : ℕ} → codeOf (drop at l) ≡ found lineEnd n → Storing l now (at + n) out
   storing-line e =

@@ -57,6 +57,6 @@ run-in-front start after from count n value h there is =
     ∙ ap (λ (m : List ℕ). take from start ++ m) (take-run count n value (drop n (drop from start)) h))
 
 -- a run of one
-pub one-in-front : (start : List ℕ) (from count value : ℕ) → count ≡ 1 → from < length start
-    → take (from + count) (set start from value) ≡ take from start ++ replicate count value
-one-in-front start from count value e there = rw (e, add-one, take-suc-set start from value there)
+pub one-in-front : (start : List ℕ) (from value : ℕ) → from < length start
+    → take (from + 1) (set start from value) ≡ take from start ++ replicate 1 value
+one-in-front start from value there = rw (add-one, take-suc-set start from value there)

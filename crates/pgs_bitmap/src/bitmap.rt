@@ -1,6 +1,7 @@
 // A bitmap from its run-length code: lines of exactly width pixels, height of them.
 use crate::code::NextCode;
 use crate::code::code_at;
+use crate::code::escape_at;
 use crate::code::literals_by_eight;
 use pgs_base::refusal::Refusal;
 ghost use mathlib.Core.Path.{_≡_};
@@ -137,10 +138,6 @@ fn fill(pixels: &mut [u8], from: usize, count: usize, color: u8)
     requires { ⌜ from + count ≤ length (now pixels) ⌝ }
     ensures { λ _. ⌜ take (from + count) (now (pixels .exit)) ≡ take from (now (pixels .entry)) ++ replicate count color ⌝ }
 {
-    if count == 1 {
-        pixels[from] = color;
-        return;
-    }
     if count <= 64 {
         if 64 <= pixels.len() - from {
             fill_exactly(pixels, from, 64, color);
@@ -158,22 +155,29 @@ fn store_rle(data: &[u8], pixels: &mut [u8])
     let mut at: usize = 0;
     let mut out: usize = 0;
     while at < data.len() {
-        let code = code_at(data, at);
-        match code {
-            NextCode::Run {
-                count,
-                color,
-                taken,
-            } => {
-                fill(pixels, out, count, color);
-                out += count;
-                at += taken;
-            }
-            NextCode::LineEnd => {
-                at += 2;
-            }
-            NextCode::Truncated(_) => {
-                return;
+        let b = data[at];
+        if b != 0 {
+            pixels[out] = b;
+            out += 1;
+            at += 1;
+        } else {
+            let code = escape_at(data, at);
+            match code {
+                NextCode::Run {
+                    count,
+                    color,
+                    taken,
+                } => {
+                    fill(pixels, out, count, color);
+                    out += count;
+                    at += taken;
+                }
+                NextCode::LineEnd => {
+                    at += 2;
+                }
+                NextCode::Truncated(_) => {
+                    return;
+                }
             }
         }
     }

@@ -2,9 +2,11 @@
 use pgs_base::refusal::Refusal;
 ghost use mathlib.Core.Path.{_≡_};
 ghost use mathlib.Core.Bool.{true};
+ghost use mathlib.Core.List.{[], _∷_};
 ghost use Prim.Native.Nat.{_+_, _≤_, _<_};
-ghost use lib.ListN.{length, drop};
-ghost use Rattle.pgs_bitmap.specs.RunLength.{codeOf, escapeOf, runOf, longZeroRun, shortColorRun, longColorRun};
+ghost use lib.ListN.{length, getD, drop};
+ghost use Rattle.pgs_base.specs.Refusals.{numberOf};
+ghost use Rattle.pgs_bitmap.specs.RunLength.{run, found, truncated, codeOf, escapeOf, runOf};
 ghost use Rattle.pgs_bitmap.specs.NextCode.{firstCode, Literals};
 
 // The code at a place of the data, with the number of bytes that it took, or why it is none.
@@ -25,86 +27,110 @@ fn wide(x: u8) -> usize
     x as usize
 }
 
-// 40..7F, after it: the length's low byte.
-fn long_zero_run(data: &[u8], at: usize, low: usize) -> NextCode
-    requires { ⌜ low < 64 ⌝ }
-    ensures { λ r. ⌜ firstCode r ≡ longZeroRun low (drop at (now («data» .entry))) ⌝ }
-{
-    if data.len() <= at {
-        return NextCode::Truncated(Refusal::TruncatedLongZeroRun);
-    }
-    NextCode::Run {
-        count: 256 * low + wide(data[at]),
-        color: 0,
-        taken: 3,
-    }
+// A run of pixels of one color, and the bytes that its code takes.
+struct Run {
+    count: usize,
+    color: u8,
+    taken: usize,
 }
 
-// 80..BF, after it: the color.
-fn short_color_run(data: &[u8], at: usize, low: usize) -> NextCode
-    ensures { λ r. ⌜ firstCode r ≡ shortColorRun low (drop at (now («data» .entry))) ⌝ }
-{
-    if data.len() <= at {
-        return NextCode::Truncated(Refusal::TruncatedShortColorRun);
-    }
-    NextCode::Run {
-        count: low,
-        color: data[at],
-        taken: 3,
-    }
-}
-
-// C0..FF, after it: the length's low byte and the color.
-fn long_color_run(data: &[u8], at: usize, low: usize) -> NextCode
-    requires { ⌜ low < 64 ⌝ }
-    ensures { λ r. ⌜ firstCode r ≡ longColorRun low (drop at (now («data» .entry))) ⌝ }
-{
-    if data.len() <= at {
-        return NextCode::Truncated(Refusal::TruncatedLongColorRun);
-    }
-    if data.len() <= at + 1 {
-        return NextCode::Truncated(Refusal::TruncatedLongColorRun);
-    }
-    NextCode::Run {
-        count: 256 * low + wide(data[at]),
-        color: data[at + 1],
-        taken: 4,
-    }
-}
-
-// The run after a byte 00 and this second byte.
-fn run_at(data: &[u8], at: usize, second: u8) -> NextCode
-    ensures { λ r. ⌜ firstCode r ≡ runOf second (drop at (now («data» .entry))) ⌝ }
+// The run of 00, this second byte and, where its code takes so many, these two more.
+fn run_of(second: u8, third: u8, fourth: u8) -> Run
+    ensures { λ r. ⌜ found (run (r .count) (r .color)) (r .taken) ≡ runOf second (third ∷ fourth ∷ []) ⌝ }
 {
     let low = wide(second % 64);
     if second < 0x40 {
-        return NextCode::Run {
+        return Run {
             count: low,
             color: 0,
             taken: 2,
         };
     }
     if second < 0x80 {
-        return long_zero_run(data, at, low);
+        return Run {
+            count: 256 * low + wide(third),
+            color: 0,
+            taken: 3,
+        };
     }
     if second < 0xC0 {
-        return short_color_run(data, at, low);
+        return Run {
+            count: low,
+            color: third,
+            taken: 3,
+        };
     }
-    long_color_run(data, at, low)
+    Run {
+        count: 256 * low + wide(third),
+        color: fourth,
+        taken: 4,
+    }
 }
 
-// The code whose first byte, before this place, is 00.
-fn escape_at(data: &[u8], at: usize) -> NextCode
-    ensures { λ r. ⌜ firstCode r ≡ escapeOf (drop at (now («data» .entry))) ⌝ }
+// Why the run of 00 and this second byte is none where bytes are missing.
+fn truncation(second: u8) -> Refusal
+    ensures { λ r. ⌜ (0x40 ≤ second → truncated (numberOf r) ≡ runOf second []) ⌝ }
 {
-    if data.len() <= at {
+    if second < 0x80 {
+        return Refusal::TruncatedLongZeroRun;
+    }
+    if second < 0xC0 {
+        return Refusal::TruncatedShortColorRun;
+    }
+    Refusal::TruncatedLongColorRun
+}
+
+fn byte_or_zero(data: &[u8], at: usize) -> u8
+    ensures { λ r. ⌜ r ≡ getD (now («data» .entry)) at 0 ⌝ }
+{
+    if at < data.len() { data[at] } else { 0 }
+}
+
+// The code that begins with the byte 00 at a place where bytes may be missing.
+fn escape_near_end(data: &[u8], at: usize) -> NextCode
+    requires { ⌜ at < length (now «data») ⌝ }
+    ensures { λ r. ⌜ firstCode r ≡ escapeOf (drop (at + 1) (now («data» .entry))) ⌝ }
+{
+    if data.len() <= at + 1 {
         return NextCode::Truncated(Refusal::TruncatedEscape);
     }
-    let second = data[at];
+    let second = data[at + 1];
     if second == 0 {
         return NextCode::LineEnd;
     }
-    run_at(data, at + 1, second)
+    let run = run_of(
+        second,
+        byte_or_zero(data, at + 2),
+        byte_or_zero(data, at + 3),
+    );
+    if data.len() - at < run.taken {
+        return NextCode::Truncated(truncation(second));
+    }
+    NextCode::Run {
+        count: run.count,
+        color: run.color,
+        taken: run.taken,
+    }
+}
+
+// The code that begins with the byte 00 at a place. No code takes more than four bytes, so that one test of the length is enough.
+pub fn escape_at(data: &[u8], at: usize) -> NextCode
+    requires { ⌜ at < length (now «data») ⌝ }
+    ensures { λ r. ⌜ firstCode r ≡ escapeOf (drop (at + 1) (now («data» .entry))) ⌝ }
+{
+    if data.len() - at < 4 {
+        return escape_near_end(data, at);
+    }
+    let second = data[at + 1];
+    if second == 0 {
+        return NextCode::LineEnd;
+    }
+    let run = run_of(second, data[at + 2], data[at + 3]);
+    NextCode::Run {
+        count: run.count,
+        color: run.color,
+        taken: run.taken,
+    }
 }
 
 // The code at a place of the data.
@@ -114,7 +140,7 @@ pub fn code_at(data: &[u8], at: usize) -> NextCode
 {
     let b = data[at];
     if b == 0 {
-        return escape_at(data, at + 1);
+        return escape_at(data, at);
     }
     NextCode::Run {
         count: 1,
