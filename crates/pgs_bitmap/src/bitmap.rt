@@ -132,19 +132,32 @@ fn fill_exactly(pixels: &mut [u8], from: usize, count: usize, color: u8)
     }
 }
 
-// Fills a run of pixels; the pixels after it may change, and are stored later. A run of at most 64 is filled as one block of 64, which
-// takes the compiler four stores, where there is room for the block.
+// Fills 64 pixels, which takes the compiler four stores.
+fn fill_block(pixels: &mut [u8], from: usize, color: u8)
+    requires { ⌜ from + 64 ≤ length (now pixels) ⌝ }
+    ensures { λ _. ⌜ now (pixels .exit) ≡ take from (now (pixels .entry)) ++ (replicate 64 color ++ drop 64 (drop from (now (pixels .entry)))) ⌝ }
+{
+    let mut i: usize = 0;
+    while i < 64 {
+        pixels[from + i] = color;
+        i += 1;
+    }
+}
+
+// Fills a run of pixels; the pixels after it may change, and are stored later. Where there is room it begins with a whole block, which
+// is all that most runs need.
 fn fill(pixels: &mut [u8], from: usize, count: usize, color: u8)
     requires { ⌜ from + count ≤ length (now pixels) ⌝ }
     ensures { λ _. ⌜ take (from + count) (now (pixels .exit)) ≡ take from (now (pixels .entry)) ++ replicate count color ⌝ }
 {
-    if count <= 64 {
-        if 64 <= pixels.len() - from {
-            fill_exactly(pixels, from, 64, color);
-            return;
-        }
+    if pixels.len() - from < 64 {
+        fill_exactly(pixels, from, count, color);
+        return;
     }
-    fill_exactly(pixels, from, count, color);
+    fill_block(pixels, from, color);
+    if 64 < count {
+        fill_exactly(pixels, from + 64, count - 64, color);
+    }
 }
 
 // Stores the pixels of the codes, for which there is exactly room.
