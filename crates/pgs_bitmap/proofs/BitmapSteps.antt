@@ -12,6 +12,7 @@ use lib.Dec.{eqb}
 use Rattle.pgs_base.specs.Outcome.{Verdict, refused, unless}
 use Rattle.pgs_bitmap.specs.RunLength.{Code, run, lineEnd, FirstCode, none, found, truncated, codeOf, Codes, andFurther, codesOf, pixelsOf}
 use Rattle.pgs_bitmap.specs.Bitmap.{Reading, counted, stopped, lastLineCounts, atEnd, readFrom, readOn, readingOf, bitmapOf}
+use Rattle.pgs_bitmap.specs.Progress.{Reached}
 use Rattle.pgs_bitmap.proofs.AllCodes.{taken-bounds, codes-are}
 use Rattle.pgs_bitmap.proofs.Places.{left-none}
 
@@ -87,20 +88,12 @@ module _ (width height lines column : ℕ) where
   pub end-plain : lastLineCounts width column ≡ false → column ≡ 0 → atEnd width height lines column ≡ unless 32 (eqb lines height)
   end-plain e h = rw (e, eq-eqb _ _ h)
 
--- The check has come to a place, with so many lines ended and so many pixels after them: reading on from there comes to what
--- reading all comes to.
-pub record Reached (l : List ℕ) (width height lines column at : ℕ) : Type 0 where
-  pub within : at ≤ length l
-  pub few : lines ≤ height
-  pub narrow : column ≤ width
-  pub same : readOn width height lines column (drop at l) .verdict ≡ readingOf l width height .verdict
-
-pub reached-start : (l : List ℕ) (width height : ℕ) → Reached l width height 0 0 0
+pub reached-start : (l : List ℕ) (width height : ℕ) → Reached l width height 0 0 0 (readingOf l width height .verdict)
 reached-start l width height = record { within = omega arith; few = omega arith; narrow = omega arith; same = refl }
 
-module _ {l : List ℕ} {width height lines column at : ℕ} where
-  pub reached-run : {count color n : ℕ} → Reached l width height lines column at → codeOf (drop at l) ≡ found (run count color) n
-      → column + count ≤ width → Reached l width height lines (column + count) (at + n)
+module _ {l : List ℕ} {width height lines column at : ℕ} {v : Verdict} where
+  pub reached-run : {count color n : ℕ} → Reached l width height lines column at v → codeOf (drop at l) ≡ found (run count color) n
+      → column + count ≤ width → Reached l width height lines (column + count) (at + n) v
   reached-run r e h =
       record {
         within = taken-at l at (r .within) e .1;
@@ -109,8 +102,8 @@ module _ {l : List ℕ} {width height lines column at : ℕ} where
         same = sym (ap (λ (x : Reading). x .verdict) (read-run width height lines column l at e h)) ∙ r .same;
       }
 
-  pub reached-line : {n : ℕ} → Reached l width height lines column at → codeOf (drop at l) ≡ found lineEnd n
-      → column ≡ width → lines < height → Reached l width height (lines + 1) 0 (at + n)
+  pub reached-line : {n : ℕ} → Reached l width height lines column at v → codeOf (drop at l) ≡ found lineEnd n
+      → column ≡ width → lines < height → Reached l width height (lines + 1) 0 (at + n) v
   reached-line r e h k =
       record {
         within = taken-at l at (r .within) e .1;
@@ -119,27 +112,27 @@ module _ {l : List ℕ} {width height lines column at : ℕ} where
         same = sym (ap (λ (x : Reading). x .verdict) (read-line width height lines column l at e h k)) ∙ r .same;
       }
 
-  -- what stops the reading at the place is what the whole comes to
-  stops : {v : Verdict} → Reached l width height lines column at → readOn width height lines column (drop at l) ≡ stopped v
-      → v ≡ readingOf l width height .verdict
+  -- what stops the reading at the place is the verdict
+  stops : {u : Verdict} → Reached l width height lines column at v → readOn width height lines column (drop at l) ≡ stopped u
+      → u ≡ v
   stops r e = sym (ap (λ (x : Reading). x .verdict) e) ∙ r .same
 
-  pub reached-overrun : {count color n : ℕ} → Reached l width height lines column at → codeOf (drop at l) ≡ found (run count color) n
-      → width < column + count → refused 24 ≡ readingOf l width height .verdict
+  pub reached-overrun : {count color n : ℕ} → Reached l width height lines column at v → codeOf (drop at l) ≡ found (run count color) n
+      → width < column + count → refused 24 ≡ v
   reached-overrun r e h = stops r (read-overrun width height lines column l at e h)
 
-  pub reached-short-line : {n : ℕ} → Reached l width height lines column at → codeOf (drop at l) ≡ found lineEnd n
-      → (column ≡ width → ⊥) → refused 29 ≡ readingOf l width height .verdict
+  pub reached-short-line : {n : ℕ} → Reached l width height lines column at v → codeOf (drop at l) ≡ found lineEnd n
+      → (column ≡ width → ⊥) → refused 29 ≡ v
   reached-short-line r e h = stops r (read-short-line width height lines column l at e h)
 
-  pub reached-extra-line : {n : ℕ} → Reached l width height lines column at → codeOf (drop at l) ≡ found lineEnd n
-      → column ≡ width → height ≤ lines → refused 30 ≡ readingOf l width height .verdict
+  pub reached-extra-line : {n : ℕ} → Reached l width height lines column at v → codeOf (drop at l) ≡ found lineEnd n
+      → column ≡ width → height ≤ lines → refused 30 ≡ v
   reached-extra-line r e h k = stops r (read-extra-line width height lines column l at e h k)
 
-  pub reached-truncated : {k : ℕ} → Reached l width height lines column at → codeOf (drop at l) ≡ truncated k
-      → refused k ≡ readingOf l width height .verdict
+  pub reached-truncated : {k : ℕ} → Reached l width height lines column at v → codeOf (drop at l) ≡ truncated k
+      → refused k ≡ v
   reached-truncated r e = stops r (read-truncated width height lines column l at e)
 
-  pub reached-end : Reached l width height lines column at → length l ≤ at
-      → atEnd width height lines column ≡ readingOf l width height .verdict
+  pub reached-end : Reached l width height lines column at v → length l ≤ at
+      → atEnd width height lines column ≡ v
   reached-end r h = stops r (read-end width height lines column l at h)

@@ -2,3 +2,4 @@ pub mod RunLength
 pub mod Bitmap
 pub mod Decoding
 pub mod NextCode
+pub mod Progress

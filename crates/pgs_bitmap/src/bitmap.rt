@@ -1,21 +1,32 @@
 // A bitmap from its run-length code: lines of exactly width pixels, height of them.
 use crate::code::NextCode;
-use crate::code::code_at;
 use crate::code::escape_at;
-use crate::code::literals_by_eight;
 use pgs_base::refusal::Refusal;
 ghost use mathlib.Core.Path.{_≡_};
 ghost use mathlib.Core.List.{_++_};
 ghost use Prim.Native.Nat.{_+_, _≤_, _<_};
-ghost use lib.ListN.{length, take, drop, replicate};
+ghost use lib.ListN.{length, getD, take, drop, replicate};
 ghost use Rattle.pgs_base.specs.Outcome.{unless};
 ghost use lib.Dec.{eqb};
 ghost use Rattle.pgs_bitmap.specs.Bitmap.{lastLineCounts, atEnd, readingOf, bitmapOf};
 ghost use Rattle.pgs_bitmap.specs.Decoding.{outcome, Decoding};
+ghost use Rattle.pgs_bitmap.specs.Progress.{Stepped};
 
 // What reading a bitmap comes to.
 pub enum Decoded {
     Accepted,
+    Refused(Refusal),
+}
+
+// Where reading stands after a code: the lines ended, the pixels after them, the place of the next code.
+pub struct Place {
+    pub lines: usize,
+    pub column: usize,
+    pub at: usize,
+}
+
+pub enum Step {
+    To(Place),
     Refused(Refusal),
 }
 
@@ -49,68 +60,86 @@ fn end_of_data(width: usize, height: usize, lines: usize, column: usize) -> Deco
     line_count(lines, height)
 }
 
-fn least(a: usize, b: usize) -> usize
-    ensures { λ r. ⌜ (r ≤ a) × (r ≤ b) ⌝ }
+// Reads the code that begins with the byte 00 at a place, with so many lines ended and so many pixels after them.
+fn after_escape(
+    data: &[u8],
+    width: usize,
+    height: usize,
+    lines: usize,
+    column: usize,
+    at: usize,
+) -> Step
+    requires { ⌜ (at < length (now «data»)) × (getD (now «data») at 0 ≡ 0) × (column ≤ width) × (lines ≤ height) × (height < 65536) ⌝ }
+    ensures { λ r. ⌜ Stepped (now («data» .entry)) width height lines column at r ⌝ }
 {
-    if a < b { a } else { b }
+    let code = escape_at(data, at);
+    match code {
+        NextCode::Run {
+            count,
+            color: _,
+            taken,
+        } => {
+            if width - column < count {
+                return Step::Refused(Refusal::RunPastWidth);
+            }
+            Step::To(Place {
+                lines: lines,
+                column: column + count,
+                at: at + taken,
+            })
+        }
+        NextCode::LineEnd => {
+            if column != width {
+                return Step::Refused(Refusal::ShortLine);
+            }
+            if height <= lines {
+                return Step::Refused(Refusal::TooManyLines);
+            }
+            Step::To(Place {
+                lines: lines + 1,
+                column: 0,
+                at: at + 2,
+            })
+        }
+        NextCode::Truncated(why) => Step::Refused(why),
+    }
 }
 
-// How many codes of one byte stand in a row, after one more code that took so many bytes.
-fn in_a_row(before: usize, taken: usize) -> usize
-    requires { ⌜ before < 8 ⌝ }
-    ensures { λ r. ⌜ r ≤ 8 ⌝ }
-{
-    if taken == 1 { before + 1 } else { 0 }
-}
-
-// Reads the codes through. After eight codes of one byte in a row it looks for more of them by eights.
+// Reads the codes through. Bytes in a row that are one pixel each, `from` to `at`, are tested together where another code or the end
+// follows them.
 fn check_codes(data: &[u8], width: usize, height: usize) -> Decoded
     requires { ⌜ height < 65536 ⌝ }
     ensures { λ r. ⌜ outcome r ≡ readingOf (now («data» .entry)) width height .verdict ⌝ }
 {
     let mut lines: usize = 0;
     let mut column: usize = 0;
+    let mut from: usize = 0;
     let mut at: usize = 0;
-    let mut literals: usize = 0;
     while at < data.len() {
-        let code = code_at(data, at);
-        match code {
-            NextCode::Run {
-                count,
-                color: _,
-                taken,
-            } => {
-                if width - column < count {
-                    return Decoded::Refused(Refusal::RunPastWidth);
-                }
-                column += count;
-                at += taken;
-                literals = in_a_row(literals, taken);
-                if literals == 8 {
-                    let more = literals_by_eight(data, at, least(width - column, data.len() - at));
-                    column += more;
-                    at += more;
-                    literals = 0;
-                }
+        if data[at] != 0 {
+            at += 1;
+        } else {
+            if width - column < at - from {
+                return Decoded::Refused(Refusal::RunPastWidth);
             }
-            NextCode::LineEnd => {
-                if column != width {
-                    return Decoded::Refused(Refusal::ShortLine);
+            let step = after_escape(data, width, height, lines, column + (at - from), at);
+            match step {
+                Step::To(place) => {
+                    lines = place.lines;
+                    column = place.column;
+                    from = place.at;
+                    at = place.at;
                 }
-                if height <= lines {
-                    return Decoded::Refused(Refusal::TooManyLines);
+                Step::Refused(why) => {
+                    return Decoded::Refused(why);
                 }
-                lines += 1;
-                column = 0;
-                at += 2;
-                literals = 0;
-            }
-            NextCode::Truncated(why) => {
-                return Decoded::Refused(why);
             }
         }
     }
-    end_of_data(width, height, lines, column)
+    if width - column < at - from {
+        return Decoded::Refused(Refusal::RunPastWidth);
+    }
+    end_of_data(width, height, lines, column + (at - from))
 }
 
 // Reads a bitmap through without storing it.

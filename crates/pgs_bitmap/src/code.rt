@@ -1,13 +1,12 @@
 // One code of the run-length code.
 use pgs_base::refusal::Refusal;
 ghost use mathlib.Core.Path.{_≡_};
-ghost use mathlib.Core.Bool.{true};
 ghost use mathlib.Core.List.{[], _∷_};
 ghost use Prim.Native.Nat.{_+_, _≤_, _<_};
 ghost use lib.ListN.{length, getD, drop};
 ghost use Rattle.pgs_base.specs.Refusals.{numberOf};
-ghost use Rattle.pgs_bitmap.specs.RunLength.{run, found, truncated, codeOf, escapeOf, runOf};
-ghost use Rattle.pgs_bitmap.specs.NextCode.{firstCode, Literals};
+ghost use Rattle.pgs_bitmap.specs.RunLength.{run, found, truncated, escapeOf, runOf};
+ghost use Rattle.pgs_bitmap.specs.NextCode.{firstCode};
 
 // The code at a place of the data, with the number of bytes that it took, or why it is none.
 pub enum NextCode {
@@ -131,50 +130,4 @@ pub fn escape_at(data: &[u8], at: usize) -> NextCode
         color: run.color,
         taken: run.taken,
     }
-}
-
-// The code at a place of the data.
-pub fn code_at(data: &[u8], at: usize) -> NextCode
-    requires { ⌜ at < length (now «data») ⌝ }
-    ensures { λ r. ⌜ firstCode r ≡ codeOf (drop at (now («data» .entry))) ⌝ }
-{
-    let b = data[at];
-    if b == 0 {
-        return escape_at(data, at);
-    }
-    NextCode::Run {
-        count: 1,
-        color: b,
-        taken: 1,
-    }
-}
-
-// Whether the eight bytes from a place on are one pixel each. It tests them all, so that the compiler can test them at once.
-fn eight_literals(data: &[u8], at: usize) -> bool
-    requires { ⌜ at + 8 ≤ length (now «data») ⌝ }
-    ensures { λ r. ⌜ (r ≡ true → Literals (now («data» .entry)) at 8) ⌝ }
-{
-    let mut all = true;
-    let mut i: usize = 0;
-    while i < 8 {
-        all = all & (data[at + i] != 0);
-        i += 1;
-    }
-    all
-}
-
-// So many bytes from a place on, at most `most`, are one pixel each: counted by eights, up to an eight that has a byte 00.
-pub fn literals_by_eight(data: &[u8], at: usize, most: usize) -> usize
-    requires { ⌜ at + most ≤ length (now «data») ⌝ }
-    ensures { λ r. ⌜ (r ≤ most) × Literals (now («data» .entry)) at r ⌝ }
-{
-    let mut n: usize = 0;
-    while 8 <= most - n {
-        if eight_literals(data, at + n) {
-            n += 8;
-        } else {
-            return n;
-        }
-    }
-    n
 }

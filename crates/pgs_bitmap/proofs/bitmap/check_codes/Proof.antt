@@ -1,146 +1,110 @@
--- `check_codes` meets its contract. The loop's invariant: reading on from here comes to what reading all comes to. The measure is what
--- is left of the data. Assumes nothing.
-use mathlib.Core.Path.{_≡_, _∙_, sym, ap}
-use Prim.Native.Nat.{_+_, _-_, _<_}
+-- `check_codes` meets its contract. The loop's invariant: reading on from `from` comes to what reading all comes to, and the bytes from
+-- there to `at` are one pixel each. The measure is what is left of the data. Assumes nothing.
+use mathlib.Core.Path.{_≡_, refl, _∙_, sym, ap, subst}
+use Prim.Native.Nat.{_+_, _-_}
 use native.Mathlib.Omega.{arith}
-use lib.ListN.{length, drop}
+use lib.ListN.{length}
 use denote.Ref.{now}
 use borrow.Author.Needs.{needs}
-use Rattle.pgs_base.specs.Refusals.{numberOf}
-use Rattle.pgs_bitmap.specs.RunLength.{run, lineEnd, found, truncated, codeOf}
-use Rattle.pgs_bitmap.specs.NextCode.{firstCode}
-use Rattle.pgs_bitmap.proofs.BitmapSteps.{taken-at, Reached, reached-start, reached-run, reached-line, reached-overrun, reached-short-line, reached-extra-line, reached-truncated, reached-end}
-use Rattle.pgs_bitmap.proofs.LiteralStretch.{reached-literals}
+use Rattle.pgs_bitmap.specs.Bitmap.{readingOf}
+use Rattle.pgs_bitmap.specs.Progress.{Reached, Stepped}
+use Rattle.pgs_bitmap.specs.declared.bitmap.Step.{Step}
+use Rattle.pgs_bitmap.specs.declared.bitmap.Step.the-variants.{To}
+use Rattle.pgs_bitmap.proofs.BitmapSteps.{reached-start, reached-end}
+use Rattle.pgs_bitmap.proofs.LiteralStretch.{Passing, passing-reached, passing-pixel, passing-fits, passing-overrun, passing-step}
 use Rattle.pgs_bitmap.proofs.bitmap.check_codes.Statement.{statement}
 use Rattle.pgs_bitmap.proofs.bitmap.check_codes.Tie as tie
 
 abbrev Inv-loop : tie.InvT-loop
-Inv-loop «data» width height lines₀ column₀ at₀ literals₀ lines column at literals = (literals < 8) × Reached «data» width height lines column at
+Inv-loop «data» width height lines₀ column₀ from₀ at₀ lines column from at = Passing «data» width height lines column from at (readingOf «data» width height .verdict)
 
 abbrev μ-loop : tie.MeasureT-loop
-μ-loop «data» width height lines₀ column₀ at₀ literals₀ lines column at literals = length «data» - at
-
--- in each arm: the code that stands at the loop's place
-run-here : (c : tie.After-known-told Inv-loop μ-loop)
-    → codeOf (drop (c .before .before .before .before .before .loop .at) (now (c .before .before .before .before .before .before .before .args .«data»)))
-    ≡ found (run (c .before .code .given .0 .0) (c .before .code .given .0 .1 .0)) (c .before .code .given .0 .1 .1 .0)
-run-here c = sym (c .before .before .before .code-at .ensures) ∙ ap firstCode (c .before .code .given .1)
-
-line-end-here : (c : tie.After-enum-told Inv-loop μ-loop) → codeOf (drop (c .before .before .before .before .loop .at) (now (c .before .before .before .before .before .before .args .«data»))) ≡ found lineEnd 2
-line-end-here c = sym (c .before .before .code-at .ensures) ∙ ap firstCode (c .enum-told .given .1)
-
-truncated-here : (c : tie.After-known-told2 Inv-loop μ-loop)
-    → codeOf (drop (c .before .before .before .before .before .loop .at) (now (c .before .before .before .before .before .before .before .args .«data»))) ≡ truncated (numberOf (c .before .code2 .given .0 .0))
-truncated-here c = sym (c .before .before .before .code-at .ensures) ∙ ap firstCode (c .before .code2 .given .1)
-
--- the place after a run that fits, after the stretch of pixels behind it, and after a line end
-after-run : (c : tie.Else1 Inv-loop μ-loop)
-    → Reached (now (c .before .before .before .before .before .before .before .before .args .«data»)) (c .before .before .before .before .before .before .before .before .args .width) (c .before .before .before .before .before .before .before .before .args .height) (c .before .before .before .before .before .before .loop .lines)
-    (c .before .before .before .before .before .before .loop .column + c .before .before .code .given .0 .0) (c .before .before .before .before .before .before .loop .at + c .before .before .code .given .0 .1 .1 .0)
-after-run c = reached-run (c .before .before .before .before .before .before .loop .inv .1) (run-here (c .before)) (omega arith)
-
-after-stretch : (c : tie.After-literals-by-eight Inv-loop μ-loop)
-    → Reached (now (c .before .before .before .before .before .before .before .before .before .before .before .before .args .«data»)) (c .before .before .before .before .before .before .before .before .before .before .before .before .args .width) (c .before .before .before .before .before .before .before .before .before .before .before .before .args .height) (c .before .before .before .before .before .before .before .before .before .before .loop .lines)
-    (c .before .before .before .before .before .before .before .before .before .before .loop .column + c .before .before .before .before .before .before .code .given .0 .0 + c .literals-by-eight .result)
-    (c .before .before .before .before .before .before .before .before .before .before .loop .at + c .before .before .before .before .before .before .code .given .0 .1 .1 .0 + c .literals-by-eight .result)
-after-stretch c =
-    let r = after-run (c .before .before .before .before) in
-    let few = c .before .least .ensures in
-    let more = c .literals-by-eight .ensures in
-    reached-literals (c .literals-by-eight .result) r (more .1)
-    (omega (arith, r .narrow, few .0, more .0))
-    (omega (arith, r .within, few .1, more .0))
-
-after-line : (c : tie.Else4 Inv-loop μ-loop)
-    → Reached (now (c .before .before .before .before .before .before .before .before .args .«data»)) (c .before .before .before .before .before .before .before .before .args .width) (c .before .before .before .before .before .before .before .before .args .height) (c .before .before .before .before .before .before .loop .lines + 1) 0 (c .before .before .before .before .before .before .loop .at + 2)
-after-line c = reached-line (c .before .before .before .before .before .before .loop .inv .1) (line-end-here (c .before .before)) (c .before .if3 .left) (omega arith)
+μ-loop «data» width height lines₀ column₀ from₀ at₀ lines column from at = length «data» - at
 
 loop-holds : tie.Need-loop-holds Inv-loop μ-loop
-loop-holds c = (omega arith, reached-start _ _ _)
+loop-holds c = passing-reached (reached-start _ _ _)
 
-code-at-requires : tie.Need-code-at-requires Inv-loop μ-loop
-code-at-requires c κs = search needs
-
-enum-known-code : tie.Need-enum-known-code Inv-loop μ-loop
-enum-known-code c = search needs
-
-sub-if1 : tie.Need-sub-if1 Inv-loop μ-loop
-sub-if1 c = omega arith
-
-returns : tie.Need-returns Inv-loop μ-loop
-returns c = reached-overrun (c .before .before .before .before .before .before .loop .inv .1) (run-here (c .before)) (omega arith)
-
-add-column : tie.Need-add-column Inv-loop μ-loop
-add-column c = omega arith
+shared-slice-read-if1 : tie.Need-shared-slice-read-if1 Inv-loop μ-loop
+shared-slice-read-if1 c = search needs
 
 add-at : tie.Need-add-at Inv-loop μ-loop
-add-at c = omega (arith, after-run c .within)
-
-in-a-row-requires : tie.Need-in-a-row-requires Inv-loop μ-loop
-in-a-row-requires c κs = c .before .before .before .before .before .before .loop .inv .0
-
-sub-least : tie.Need-sub-least Inv-loop μ-loop
-sub-least c = after-run (c .before .before) .narrow
-
-sub-least-2 : tie.Need-sub-least-2 Inv-loop μ-loop
-sub-least-2 c = after-run (c .before .before) .within
-
-least-requires : tie.Need-least-requires Inv-loop μ-loop
-least-requires c κs = search needs
-
-literals-by-eight-requires : tie.Need-literals-by-eight-requires Inv-loop μ-loop
-literals-by-eight-requires c κs = omega (arith, after-run (c .before .before .before) .within)
-
-add-column-2 : tie.Need-add-column-2 Inv-loop μ-loop
-add-column-2 c = omega (arith, after-stretch c .narrow)
-
-add-at-2 : tie.Need-add-at-2 Inv-loop μ-loop
-add-at-2 c = omega (arith, after-stretch c .within)
+add-at c = omega arith
 
 loop-less : tie.Need-loop-less Inv-loop μ-loop
-loop-less c = omega (arith, after-stretch c .within, taken-at _ _ (c .before .before .before .before .before .before .before .before .before .before .loop .inv .1 .within) (run-here (c .before .before .before .before .before)) .0)
+loop-less c = omega arith
 
 loop-again : tie.Need-loop-again Inv-loop μ-loop
-loop-again c = (omega arith, after-stretch c)
+loop-again c = passing-pixel (c .before .before .before .loop .inv) (c .before .before .loop-test .taken) (c .if1 .taken)
+
+sub-if2 : tie.Need-sub-if2 Inv-loop μ-loop
+sub-if2 c = c .before .before .before .loop .inv .reached .narrow
+
+sub-if2-2 : tie.Need-sub-if2-2 Inv-loop μ-loop
+sub-if2-2 c = c .before .before .before .loop .inv .order
+
+returns : tie.Need-returns Inv-loop μ-loop
+returns c = passing-overrun (c .before .before .before .before .loop .inv) (c .if2 .taken)
+
+sub-after-escape : tie.Need-sub-after-escape Inv-loop μ-loop
+sub-after-escape c = c .before .before .before .before .loop .inv .order
+
+add-after-escape : tie.Need-add-after-escape Inv-loop μ-loop
+add-after-escape c = omega (arith, c .before .before .before .before .loop .inv .reached .narrow)
+
+-- the pixels before the code fit into the line
+fits : (c : tie.Else2 Inv-loop μ-loop)
+    → Reached (now (c .before .before .before .before .before .before .args .«data»)) (c .before .before .before .before .before .before .args .width) (c .before .before .before .before .before .before .args .height) (c .before .before .before .before .loop .lines)
+    (c .before .before .before .before .loop .column + (c .before .before .before .before .loop .at - c .before .before .before .before .loop .from)) (c .before .before .before .before .loop .at)
+    (readingOf (now (c .before .before .before .before .before .before .args .«data»)) (c .before .before .before .before .before .before .args .width) (c .before .before .before .before .before .before .args .height) .verdict)
+fits c = passing-fits (c .before .before .before .before .loop .inv) (c .if2 .left)
+
+-- what the code comes to, and in one arm where it leads
+abbrev stepped : (c : tie.After-after-escape Inv-loop μ-loop) → Step → Type 0
+stepped c =
+    Stepped (now (c .before .before .before .before .before .before .before .args .«data»)) (c .before .before .before .before .before .before .before .args .width) (c .before .before .before .before .before .before .before .args .height) (c .before .before .before .before .before .loop .lines)
+    (c .before .before .before .before .before .loop .column + (c .before .before .before .before .before .loop .at - c .before .before .before .before .before .loop .from)) (c .before .before .before .before .before .loop .at)
+
+moved : (c : tie.After-known-told Inv-loop μ-loop) → stepped (c .before .before .before) (To (c .before .step .given .0 .0))
+moved c = subst (stepped (c .before .before .before)) (c .before .step .given .1) (c .before .before .before .after-escape .ensures)
+
+after-escape-requires : tie.Need-after-escape-requires Inv-loop μ-loop
+after-escape-requires c κs = (c .before .before .before .loop-test .taken, c .before .if1 .left, fits c .narrow, fits c .few, c .before .before .before .before .before .before .pre)
+
+enum-known-step : tie.Need-enum-known-step Inv-loop μ-loop
+enum-known-step c = search needs
 
 loop-less-2 : tie.Need-loop-less-2 Inv-loop μ-loop
-loop-less-2 c = omega (arith, after-run (c .before .before) .within, taken-at _ _ (c .before .before .before .before .before .before .before .before .loop .inv .1 .within) (run-here (c .before .before .before)) .0)
+loop-less-2 c = omega (arith, moved c .0, moved c .1 .within)
 
 loop-again-2 : tie.Need-loop-again-2 Inv-loop μ-loop
-loop-again-2 c = (omega arith, after-run (c .before .before))
+loop-again-2 c = passing-step (fits (c .before .before .before .before)) (moved c .1)
 
-enum-told : tie.Need-enum-told Inv-loop μ-loop
-enum-told c = search needs
+enum-known-step-2 : tie.Need-enum-known-step-2 Inv-loop μ-loop
+enum-known-step-2 c = search needs
 
 returns-2 : tie.Need-returns-2 Inv-loop μ-loop
-returns-2 c = reached-short-line (c .before .before .before .before .before .loop .inv .1) (line-end-here (c .before)) (c .if3 .taken)
+returns-2 c = subst (stepped (c .before .before .before)) (c .before .step2 .given .1) (c .before .before .before .after-escape .ensures) ∙ fits (c .before .before .before .before) .same
+
+sub-if3 : tie.Need-sub-if3 Inv-loop μ-loop
+sub-if3 c = c .before .loop .inv .reached .narrow
+
+sub-if3-2 : tie.Need-sub-if3-2 Inv-loop μ-loop
+sub-if3-2 c = c .before .loop .inv .order
 
 returns-3 : tie.Need-returns-3 Inv-loop μ-loop
-returns-3 c = reached-extra-line (c .before .before .before .before .before .before .loop .inv .1) (line-end-here (c .before .before)) (c .before .if3 .left) (c .if4 .taken)
+returns-3 c = passing-overrun (c .before .before .loop .inv) (c .if3 .taken)
 
-add-lines : tie.Need-add-lines Inv-loop μ-loop
-add-lines c = omega arith
+sub-end-of-data : tie.Need-sub-end-of-data Inv-loop μ-loop
+sub-end-of-data c = c .before .before .loop .inv .order
 
-add-at-3 : tie.Need-add-at-3 Inv-loop μ-loop
-add-at-3 c = omega (arith, after-line c .within)
-
-loop-less-3 : tie.Need-loop-less-3 Inv-loop μ-loop
-loop-less-3 c = omega (arith, after-line c .within)
-
-loop-again-3 : tie.Need-loop-again-3 Inv-loop μ-loop
-loop-again-3 c = (omega arith, after-line c)
-
-enum-known-code-2 : tie.Need-enum-known-code-2 Inv-loop μ-loop
-enum-known-code-2 c = search needs
-
-returns-4 : tie.Need-returns-4 Inv-loop μ-loop
-returns-4 c = reached-truncated (c .before .before .before .before .before .loop .inv .1) (truncated-here c)
+add-end-of-data : tie.Need-add-end-of-data Inv-loop μ-loop
+add-end-of-data c = omega (arith, c .before .before .loop .inv .reached .narrow)
 
 end-of-data-requires : tie.Need-end-of-data-requires Inv-loop μ-loop
-end-of-data-requires c κs = omega arith
+end-of-data-requires c κs = (c .before .before .loop .inv .reached .few, c .before .before .before .before .pre)
 
-returns-5 : tie.Need-returns-5 Inv-loop μ-loop
-returns-5 c = c .end-of-data .ensures ∙ reached-end (c .before .before .loop .inv .1) (c .before .loop-test .left)
+returns-4 : tie.Need-returns-4 Inv-loop μ-loop
+returns-4 c = c .end-of-data .ensures ∙ reached-end (passing-fits (c .before .before .before .loop .inv) (c .before .if3 .left)) (c .before .before .loop-test .left)
 
 pub check-codes-spec : {M : Type 1} → statement M
 check-codes-spec =
@@ -149,31 +113,25 @@ check-codes-spec =
     Inv-loop
     μ-loop
     loop-holds
-    code-at-requires
-    enum-known-code
-    sub-if1
-    returns
-    add-column
+    shared-slice-read-if1
     add-at
-    in-a-row-requires
-    sub-least
-    sub-least-2
-    least-requires
-    literals-by-eight-requires
-    add-column-2
-    add-at-2
     loop-less
     loop-again
+    sub-if2
+    sub-if2-2
+    returns
+    sub-after-escape
+    add-after-escape
+    after-escape-requires
+    enum-known-step
     loop-less-2
     loop-again-2
-    enum-told
+    enum-known-step-2
     returns-2
+    sub-if3
+    sub-if3-2
     returns-3
-    add-lines
-    add-at-3
-    loop-less-3
-    loop-again-3
-    enum-known-code-2
-    returns-4
+    sub-end-of-data
+    add-end-of-data
     end-of-data-requires
-    returns-5)
+    returns-4)
