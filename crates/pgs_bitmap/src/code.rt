@@ -38,6 +38,7 @@ fn run_of(second: u8, third: u8, fourth: u8) -> Run
     ensures { λ r. ⌜ found (run (r .count) (r .color)) (r .taken) ≡ runOf second (third ∷ fourth ∷ []) ⌝ }
 {
     let low = wide(second % 64);
+    let long = 256 * low + wide(third);
     if second < 0x40 {
         return Run {
             count: low,
@@ -47,7 +48,7 @@ fn run_of(second: u8, third: u8, fourth: u8) -> Run
     }
     if second < 0x80 {
         return Run {
-            count: 256 * low + wide(third),
+            count: long,
             color: 0,
             taken: 3,
         };
@@ -60,7 +61,7 @@ fn run_of(second: u8, third: u8, fourth: u8) -> Run
         };
     }
     Run {
-        count: 256 * low + wide(third),
+        count: long,
         color: fourth,
         taken: 4,
     }
