@@ -19,13 +19,13 @@ pub enum Decoded {
 }
 
 // Where reading stands after a code: the lines ended, the pixels after them, the place of the next code.
-pub struct Place {
-    pub lines: usize,
-    pub column: usize,
-    pub at: usize,
+struct Place {
+    lines: usize,
+    column: usize,
+    at: usize,
 }
 
-pub enum Step {
+enum Step {
     To(Place),
     Refused(Refusal),
 }

@@ -1,3 +1,4 @@
+-- `end_of_data` meets its contract, by its two tests. Assumes nothing.
 use mathlib.Core.Path.{_∙_, sym}
 use Rattle.pgs_bitmap.proofs.BitmapSteps.{end-last-line, end-partial, end-plain}
 use borrow.Author.Needs.{needs}

@@ -1,3 +1,4 @@
+-- `last_line_counts` meets its contract, by the first test. Assumes nothing.
 use borrow.Author.Tests.{eq-eqb, ne-eqb}
 use Rattle.pgs_bitmap.proofs.bitmap.last_line_counts.Statement.{statement}
 use Rattle.pgs_bitmap.proofs.bitmap.last_line_counts.Tie as tie

@@ -1,3 +1,4 @@
+-- `line_count` meets its contract, by its test. Assumes nothing.
 use borrow.Author.Tests.{eq-eqb, ne-eqb}
 use Rattle.pgs_bitmap.proofs.bitmap.line_count.Statement.{statement}
 use Rattle.pgs_bitmap.proofs.bitmap.line_count.Tie as tie
