@@ -1,20 +1,40 @@
 -- Bytes in a row that are one pixel each, which the check tests together.
 -- Assumes nothing.
 use mathlib.Core.Path.{_≡_, refl, sym, ap, _∙_, subst, subst₂}
+use mathlib.Core.Bool.{Bool, true, false, not, _&&_}
 use mathlib.Core.List.{List}
 use Prim.Native.Nat.{ℕ, zero, suc, _+_, _-_, _≤_, _<_}
+use native.Mathlib.Decide.{decLt}
 use native.Mathlib.Omega.{arith}
+use lib.Dec.{eqb}
 use lib.ListN.{length, getD, drop}
 use borrow.Author.Count.{below-more}
+use borrow.Author.Tests.{eqb-false, not-true}
 use Rattle.pgs_base.specs.Outcome.{Verdict, refused}
 use Rattle.pgs_bitmap.specs.Bitmap.{readOn, readingOf}
-use Rattle.pgs_bitmap.specs.Progress.{Reached}
+use Rattle.pgs_bitmap.specs.Progress.{Reached, Literals}
 use Rattle.pgs_bitmap.proofs.OneCode.{code-pixel}
 use Rattle.pgs_bitmap.proofs.BitmapSteps.{reached-start, reached-run, reached-overrun}
 
--- so many bytes from a place on are nonzero
-abbrev Literals : List ℕ → (at n : ℕ) → Type 0
-Literals l at n = (k : ℕ) → k < n → getD l (at + k) 0 ≡ 0 → ⊥
+module _ (l : List ℕ) (at : ℕ) where
+  pub literals-none : Literals l at 0
+  literals-none k h = absurd (omega arith)
+
+  -- one byte more is tested
+  pub literals-more : (n : ℕ) (all : Bool) → (all ≡ true → Literals l at n)
+      → (all && not (eqb (getD l (at + n) 0) 0)) ≡ true → Literals l at (n + 1)
+  literals-more n true before e =
+      below-more (λ (k : ℕ). getD l (at + k) 0 ≡ 0 → ⊥) n (before refl) (eqb-false (getD l (at + n) 0) 0 (not-true (eqb (getD l (at + n) 0) 0) e))
+  literals-more n false before e = absurd (let z : _≡_ {A = ℕ} 0 1 = cc in omega arith)
+
+  -- m more are nonzero
+  pub literals-join : (n m : ℕ) → Literals l at n → Literals l (at + n) m → Literals l at (n + m)
+  literals-join n m before more k h zero-at = go (decLt k n)
+    where
+      go : Dec (k < n) → ⊥
+      go (yes p) = before k p zero-at
+      go (no p) =
+          more (k - n) (omega (arith, p)) (subst (λ (i : ℕ). getD l i 0 ≡ 0) {x = at + k} {y = at + n + (k - n)} (omega (arith, p)) zero-at)
 
 -- The check has come to `from`, and the bytes from there to `at` are one pixel each.
 pub record Passing (l : List ℕ) (width height lines column from at : ℕ) (v : Verdict) : Type 0 where
@@ -59,6 +79,18 @@ module _ {l : List ℕ} {width height lines column from at : ℕ} {v : Verdict} 
       more =
           below-more (λ (k : ℕ). getD l (from + k) 0 ≡ 0 → ⊥) (at - from) (p .literals)
           (subst (λ (i : ℕ). getD l i 0 ≡ 0 → ⊥) {x = at} {y = from + (at - from)} (omega (arith, p .order)) nonzero)
+
+  pub passing-stretch : (n : ℕ) → Literals l at n → at + n ≤ length l → Passing l width height lines column from (at + n) v
+  passing-stretch n stretch there =
+      record {
+        order = omega (arith, p .order);
+        within = there;
+        literals =
+            subst (Literals l from) {x = at - from + n} {y = at + n - from} (omega (arith, p .order))
+            (literals-join l from (at - from) n (p .literals)
+            (subst (λ (a : ℕ). Literals l a n) {x = at} {y = from + (at - from)} (omega (arith, p .order)) stretch));
+        reached = p .reached;
+      }
 
   -- the bytes fit into the line
   pub passing-fits : at - from ≤ width - column → Reached l width height lines (column + (at - from)) at v

@@ -1,8 +1,8 @@
 -- How far the check of a bitmap has come, for the contracts of private functions.
 use mathlib.Core.Path.{_≡_}
 use mathlib.Core.List.{List}
-use Prim.Native.Nat.{ℕ, _≤_, _<_}
-use lib.ListN.{length, drop}
+use Prim.Native.Nat.{ℕ, _+_, _≤_, _<_}
+use lib.ListN.{length, getD, drop}
 use Rattle.pgs_base.specs.Outcome.{Verdict, refused}
 use Rattle.pgs_base.specs.Refusals.{numberOf}
 use Rattle.pgs_bitmap.specs.Bitmap.{readOn}
@@ -21,3 +21,7 @@ abbrev pub Stepped : List ℕ → (width height lines column at : ℕ) → Step 
 Stepped bytes width height lines column at (To p) =
     (at < p .at) × Reached bytes width height (p .lines) (p .column) (p .at) (readOn width height lines column (drop at bytes) .verdict)
 Stepped bytes width height lines column at (Refused why) = refused (numberOf why) ≡ readOn width height lines column (drop at bytes) .verdict
+
+-- so many bytes from a place on are nonzero, so that each is one pixel
+abbrev pub Literals : List ℕ → (at n : ℕ) → Type 0
+Literals bytes at n = (k : ℕ) → k < n → getD bytes (at + k) 0 ≡ 0 → ⊥

@@ -1,6 +1,7 @@
 // A bitmap from its run-length code: lines of exactly width pixels, height of them.
 use crate::code::NextCode;
 use crate::code::escape_at;
+use crate::code::literals_by_eight;
 use pgs_base::refusal::Refusal;
 ghost use mathlib.Core.Path.{_≡_};
 ghost use mathlib.Core.List.{_++_};
@@ -106,7 +107,7 @@ fn after_escape(
 }
 
 // Reads the codes through. Bytes in a row that are one pixel each, `from` to `at`, are tested together where another code or the end
-// follows them.
+// follows them; after eight of them it looks for more by eights.
 fn check_codes(data: &[u8], width: usize, height: usize) -> Decoded
     requires { ⌜ height < 65536 ⌝ }
     ensures { λ r. ⌜ outcome r ≡ readingOf (now («data» .entry)) width height .verdict ⌝ }
@@ -118,6 +119,9 @@ fn check_codes(data: &[u8], width: usize, height: usize) -> Decoded
     while at < data.len() {
         if data[at] != 0 {
             at += 1;
+            if at - from == 8 {
+                at += literals_by_eight(data, at);
+            }
         } else {
             if width - column < at - from {
                 return Decoded::Refused(Refusal::RunPastWidth);

@@ -1,12 +1,14 @@
 // One code of the run-length code.
 use pgs_base::refusal::Refusal;
 ghost use mathlib.Core.Path.{_≡_};
+ghost use mathlib.Core.Bool.{true};
 ghost use mathlib.Core.List.{[], _∷_};
 ghost use Prim.Native.Nat.{_+_, _≤_, _<_};
 ghost use lib.ListN.{length, getD, drop};
 ghost use Rattle.pgs_base.specs.Refusals.{numberOf};
 ghost use Rattle.pgs_bitmap.specs.RunLength.{run, found, truncated, escapeOf, runOf};
 ghost use Rattle.pgs_bitmap.specs.NextCode.{firstCode};
+ghost use Rattle.pgs_bitmap.specs.Progress.{Literals};
 
 // The code at a place of the data, with the number of bytes that it took, or why it is none.
 pub enum NextCode {
@@ -131,4 +133,35 @@ pub fn escape_at(data: &[u8], at: usize) -> NextCode
         color: run.color,
         taken: run.taken,
     }
+}
+
+// Whether the eight bytes from a place on are one pixel each. It tests them all, so that the compiler can test them at once.
+fn eight_literals(data: &[u8], at: usize) -> bool
+    requires { ⌜ at + 8 ≤ length (now «data») ⌝ }
+    ensures { λ r. ⌜ (r ≡ true → Literals (now («data» .entry)) at 8) ⌝ }
+{
+    let mut all = true;
+    let mut i: usize = 0;
+    while i < 8 {
+        all = all & (data[at + i] != 0);
+        i += 1;
+    }
+    all
+}
+
+// So many bytes from a place on are one pixel each: counted by eights, up to an eight that has a byte 00.
+pub fn literals_by_eight(data: &[u8], at: usize) -> usize
+    requires { ⌜ at ≤ length (now «data») ⌝ }
+    ensures { λ r. ⌜ (at + r ≤ length (now («data» .entry))) × Literals (now («data» .entry)) at r ⌝ }
+{
+    let most = data.len() - at;
+    let mut n: usize = 0;
+    while 8 <= most - n {
+        if eight_literals(data, at + n) {
+            n += 8;
+        } else {
+            return n;
+        }
+    }
+    n
 }
