@@ -3,7 +3,7 @@ use pgs_base::refusal::Refusal;
 ghost use mathlib.Core.Path.{_≡_};
 ghost use mathlib.Core.Bool.{true};
 ghost use mathlib.Core.List.{[], _∷_};
-ghost use Prim.Native.Nat.{_+_, _≤_, _<_};
+ghost use Prim.Native.Nat.{_+_, _*_, _≤_, _<_};
 ghost use lib.ListN.{length, getD, drop};
 ghost use Rattle.pgs_base.specs.Refusals.{numberOf};
 ghost use Rattle.pgs_bitmap.specs.RunLength.{run, found, truncated, escapeOf, runOf};
@@ -35,12 +35,19 @@ struct Run {
     taken: usize,
 }
 
+// The length of a long run.
+fn long_count(low: usize, third: u8) -> usize
+    requires { ⌜ low < 64 ⌝ }
+    ensures { λ r. ⌜ r ≡ 256 * low + third ⌝ }
+{
+    256 * low + wide(third)
+}
+
 // The run of 00, this second byte and, where its code takes so many, these two more.
 fn run_of(second: u8, third: u8, fourth: u8) -> Run
     ensures { λ r. ⌜ found (run (r .count) (r .color)) (r .taken) ≡ runOf second (third ∷ fourth ∷ []) ⌝ }
 {
     let low = wide(second % 64);
-    let long = 256 * low + wide(third);
     if second < 0x40 {
         return Run {
             count: low,
@@ -50,7 +57,7 @@ fn run_of(second: u8, third: u8, fourth: u8) -> Run
     }
     if second < 0x80 {
         return Run {
-            count: long,
+            count: long_count(low, third),
             color: 0,
             taken: 3,
         };
@@ -63,7 +70,7 @@ fn run_of(second: u8, third: u8, fourth: u8) -> Run
         };
     }
     Run {
-        count: long,
+        count: long_count(low, third),
         color: fourth,
         taken: 4,
     }
