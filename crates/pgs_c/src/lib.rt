@@ -1,3 +1,6 @@
 // The C interface: what include/pgs.h declares.
-// Every function answers 0 when the call is accepted, else the refusal's number, and then leaves every other parameter as it was.
+// Every function that can refuse answers 0 when the call is accepted, else the refusal's number, and then leaves every other parameter
+// as it was.
+pub mod bitmap;
+pub mod color;
 pub mod segments;

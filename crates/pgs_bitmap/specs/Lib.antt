@@ -1,0 +1,5 @@
+pub mod RunLength
+pub mod Bitmap
+pub mod Decoding
+pub mod NextCode
+pub mod Progress

@@ -1,0 +1,27 @@
+-- How far the check of a bitmap has come, for the contracts of private functions.
+use mathlib.Core.Path.{_≡_}
+use mathlib.Core.List.{List}
+use Prim.Native.Nat.{ℕ, _+_, _≤_, _<_}
+use lib.ListN.{length, getD, drop}
+use Rattle.pgs_base.specs.Outcome.{Verdict, refused}
+use Rattle.pgs_base.specs.Refusals.{numberOf}
+use Rattle.pgs_bitmap.specs.Bitmap.{readOn}
+use Rattle.pgs_bitmap.specs.declared.bitmap.Step.{Step}
+use Rattle.pgs_bitmap.specs.declared.bitmap.Step.the-variants.{To, Refused}
+
+-- The check has come to a place, with so many lines ended and so many pixels after them: reading on from there comes to the verdict v.
+pub record Reached (bytes : List ℕ) (width height lines column at : ℕ) (v : Verdict) : Type 0 where
+  pub within : at ≤ length bytes
+  pub few : lines ≤ height
+  pub narrow : column ≤ width
+  pub same : readOn width height lines column (drop at bytes) .verdict ≡ v
+
+-- one code further on, reading on comes to what it comes to here
+abbrev pub Stepped : List ℕ → (width height lines column at : ℕ) → Step → Type 0
+Stepped bytes width height lines column at (To p) =
+    (at < p .at) × Reached bytes width height (p .lines) (p .column) (p .at) (readOn width height lines column (drop at bytes) .verdict)
+Stepped bytes width height lines column at (Refused why) = refused (numberOf why) ≡ readOn width height lines column (drop at bytes) .verdict
+
+-- so many bytes from a place on are nonzero, so that each is one pixel
+abbrev pub Literals : List ℕ → (at n : ℕ) → Type 0
+Literals bytes at n = (k : ℕ) → k < n → getD bytes (at + k) 0 ≡ 0 → ⊥

@@ -1,0 +1,246 @@
+// A bitmap from its run-length code: lines of exactly width pixels, height of them.
+use crate::code::NextCode;
+use crate::code::escape_at;
+use crate::code::literals_by_eight;
+use pgs_base::refusal::Refusal;
+ghost use mathlib.Core.Path.{_≡_};
+ghost use mathlib.Core.List.{_++_};
+ghost use Prim.Native.Nat.{_+_, _≤_, _<_};
+ghost use lib.ListN.{length, getD, take, drop, replicate};
+ghost use Rattle.pgs_base.specs.Outcome.{unless};
+ghost use lib.Dec.{eqb};
+ghost use Rattle.pgs_bitmap.specs.Bitmap.{lastLineCounts, atEnd, readingOf, bitmapOf};
+ghost use Rattle.pgs_bitmap.specs.Decoding.{outcome, Decoding};
+ghost use Rattle.pgs_bitmap.specs.Progress.{Stepped};
+
+// What reading a bitmap comes to.
+pub enum Decoded {
+    Accepted,
+    Refused(Refusal),
+}
+
+// Where reading stands after a code: the lines ended, the pixels after them, the place of the next code.
+struct Place {
+    lines: usize,
+    column: usize,
+    at: usize,
+}
+
+enum Step {
+    To(Place),
+    Refused(Refusal),
+}
+
+// An unterminated line of width pixels counts if the width is not 0.
+fn last_line_counts(width: usize, column: usize) -> bool
+    ensures { λ r. ⌜ r ≡ lastLineCounts width column ⌝ }
+{
+    column == width && width != 0
+}
+
+fn line_count(lines: usize, height: usize) -> Decoded
+    ensures { λ r. ⌜ outcome r ≡ unless 32 (eqb lines height) ⌝ }
+{
+    if lines != height {
+        return Decoded::Refused(Refusal::LineCountMismatch);
+    }
+    Decoded::Accepted
+}
+
+// The end of the data, with so many lines ended and so many pixels after them.
+fn end_of_data(width: usize, height: usize, lines: usize, column: usize) -> Decoded
+    requires { ⌜ (lines ≤ height) × (height < 65536) ⌝ }
+    ensures { λ r. ⌜ outcome r ≡ atEnd width height lines column ⌝ }
+{
+    if last_line_counts(width, column) {
+        return line_count(lines + 1, height);
+    }
+    if column != 0 {
+        return Decoded::Refused(Refusal::PartialLastLine);
+    }
+    line_count(lines, height)
+}
+
+// Reads the code that begins with the byte 00 at a place, with so many lines ended and so many pixels after them.
+fn after_escape(
+    data: &[u8],
+    width: usize,
+    height: usize,
+    lines: usize,
+    column: usize,
+    at: usize,
+) -> Step
+    requires { ⌜ (at < length (now «data»)) × (getD (now «data») at 0 ≡ 0) × (column ≤ width) × (lines ≤ height) × (height < 65536) ⌝ }
+    ensures { λ r. ⌜ Stepped (now («data» .entry)) width height lines column at r ⌝ }
+{
+    let code = escape_at(data, at);
+    match code {
+        NextCode::Run {
+            count,
+            color: _,
+            taken,
+        } => {
+            if width - column < count {
+                return Step::Refused(Refusal::RunPastWidth);
+            }
+            Step::To(Place {
+                lines: lines,
+                column: column + count,
+                at: at + taken,
+            })
+        }
+        NextCode::LineEnd => {
+            if column != width {
+                return Step::Refused(Refusal::ShortLine);
+            }
+            if height <= lines {
+                return Step::Refused(Refusal::TooManyLines);
+            }
+            Step::To(Place {
+                lines: lines + 1,
+                column: 0,
+                at: at + 2,
+            })
+        }
+        NextCode::Truncated(why) => Step::Refused(why),
+    }
+}
+
+// Reads the codes through. Bytes in a row that are one pixel each, `from` to `at`, are tested together where another code or the end
+// follows them; after eight of them it looks for more by eights.
+fn check_codes(data: &[u8], width: usize, height: usize) -> Decoded
+    requires { ⌜ height < 65536 ⌝ }
+    ensures { λ r. ⌜ outcome r ≡ readingOf (now («data» .entry)) width height .verdict ⌝ }
+{
+    let mut lines: usize = 0;
+    let mut column: usize = 0;
+    let mut from: usize = 0;
+    let mut at: usize = 0;
+    while at < data.len() {
+        if data[at] != 0 {
+            at += 1;
+            if at - from == 8 {
+                at += literals_by_eight(data, at);
+            }
+        } else {
+            if width - column < at - from {
+                return Decoded::Refused(Refusal::RunPastWidth);
+            }
+            let step = after_escape(data, width, height, lines, column + (at - from), at);
+            match step {
+                Step::To(place) => {
+                    lines = place.lines;
+                    column = place.column;
+                    from = place.at;
+                    at = place.at;
+                }
+                Step::Refused(why) => {
+                    return Decoded::Refused(why);
+                }
+            }
+        }
+    }
+    if width - column < at - from {
+        return Decoded::Refused(Refusal::RunPastWidth);
+    }
+    end_of_data(width, height, lines, column + (at - from))
+}
+
+// Reads a bitmap through without storing it.
+pub fn check_rle(data: &[u8], width: u16, height: u16) -> Decoded
+    ensures { λ r. ⌜ outcome r ≡ readingOf (now («data» .entry)) width height .verdict ⌝ }
+{
+    check_codes(data, width as usize, height as usize)
+}
+
+// Fills a run of pixels and touches no other.
+fn fill_exactly(pixels: &mut [u8], from: usize, count: usize, color: u8)
+    requires { ⌜ from + count ≤ length (now pixels) ⌝ }
+    ensures { λ _. ⌜ now (pixels .exit) ≡ take from (now (pixels .entry)) ++ (replicate count color ++ drop count (drop from (now (pixels .entry)))) ⌝ }
+{
+    let mut i: usize = 0;
+    while i < count {
+        pixels[from + i] = color;
+        i += 1;
+    }
+}
+
+// Fills 64 pixels, which takes the compiler four stores.
+fn fill_block(pixels: &mut [u8], from: usize, color: u8)
+    requires { ⌜ from + 64 ≤ length (now pixels) ⌝ }
+    ensures { λ _. ⌜ now (pixels .exit) ≡ take from (now (pixels .entry)) ++ (replicate 64 color ++ drop 64 (drop from (now (pixels .entry)))) ⌝ }
+{
+    let mut i: usize = 0;
+    while i < 64 {
+        pixels[from + i] = color;
+        i += 1;
+    }
+}
+
+// Fills a run of pixels; the pixels after it may change, and are stored later. Where there is room it begins with a whole block, which
+// is all that most runs need.
+fn fill(pixels: &mut [u8], from: usize, count: usize, color: u8)
+    requires { ⌜ from + count ≤ length (now pixels) ⌝ }
+    ensures { λ _. ⌜ take (from + count) (now (pixels .exit)) ≡ take from (now (pixels .entry)) ++ replicate count color ⌝ }
+{
+    if pixels.len() - from < 64 {
+        fill_exactly(pixels, from, count, color);
+        return;
+    }
+    fill_block(pixels, from, color);
+    if 64 < count {
+        fill_exactly(pixels, from + 64, count - 64, color);
+    }
+}
+
+// Stores the pixels of the codes, for which there is exactly room.
+fn store_rle(data: &[u8], pixels: &mut [u8])
+    requires { ⌜ length (now pixels) ≡ length (bitmapOf (now «data»)) ⌝ }
+    ensures { λ _. ⌜ now (pixels .exit) ≡ bitmapOf (now («data» .entry)) ⌝ }
+{
+    let mut at: usize = 0;
+    let mut out: usize = 0;
+    while at < data.len() {
+        let b = data[at];
+        if b != 0 {
+            pixels[out] = b;
+            out += 1;
+            at += 1;
+        } else {
+            let code = escape_at(data, at);
+            match code {
+                NextCode::Run {
+                    count,
+                    color,
+                    taken,
+                } => {
+                    fill(pixels, out, count, color);
+                    out += count;
+                    at += taken;
+                }
+                NextCode::LineEnd => {
+                    at += 2;
+                }
+                NextCode::Truncated(_) => {
+                    return;
+                }
+            }
+        }
+    }
+}
+
+// Reads a bitmap into the first width times height pixels.
+pub fn decode_rle(data: &[u8], width: u16, height: u16, pixels: &mut [u8]) -> Decoded
+    ensures { λ r. ⌜ Decoding (now («data» .entry)) width height (now (pixels .entry)) r (now (pixels .exit)) ⌝ }
+{
+    let checked = check_rle(data, width, height);
+    let Decoded::Accepted = checked else {
+        return checked;
+    };
+    let need = (width as usize) * (height as usize);
+    if pixels.len() < need {
+        return Decoded::Refused(Refusal::BufferTooSmall);
+    }
+    store_rle(data, &mut pixels[..need]);
+    Decoded::Accepted
+}

@@ -1,0 +1,3 @@
+// Object bitmaps: the run-length code of 01, 'Run-length code'.
+pub mod bitmap;
+mod code;
