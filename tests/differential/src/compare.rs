@@ -1,32 +1,85 @@
 //! One call of the library, held against what it should answer, lent memory included.
 
-use std::collections::BTreeMap;
+use std::fmt;
 
-use crate::lent::{Lent, Record};
+use crate::lent::{Lent, LentBytes, Record};
 use crate::library::Count;
 use crate::numbers::TOO_SHORT;
 use crate::prng::mix;
 
+/// How many inputs of each sort.
+#[derive(Clone, Copy, Default)]
+pub struct Inputs {
+    pub streams: u64,
+    pub bodies: u64,
+    pub bitmaps: u64,
+    pub colors: u64,
+    pub palettes: u64,
+}
+
+impl Inputs {
+    /// Those that came after `earlier`.
+    pub fn since(self, earlier: Inputs) -> Inputs {
+        Inputs {
+            streams: self.streams - earlier.streams,
+            bodies: self.bodies - earlier.bodies,
+            bitmaps: self.bitmaps - earlier.bitmaps,
+            colors: self.colors - earlier.colors,
+            palettes: self.palettes - earlier.palettes,
+        }
+    }
+}
+
+/// The sorts that there are any of.
+impl fmt::Display for Inputs {
+    fn fmt(&self, f: &mut fmt::Formatter) -> fmt::Result {
+        let sorts = [
+            (self.streams, "streams"),
+            (self.bodies, "bodies"),
+            (self.bitmaps, "bitmaps"),
+            (self.colors, "colours"),
+            (self.palettes, "lists of palettes"),
+        ];
+        let some = sorts.iter().filter(|(count, _)| *count > 0);
+        let each: Vec<String> = some.map(|(count, sort)| format!("{count} {sort}")).collect();
+        f.write_str(&each.join(", "))
+    }
+}
+
+/// The numbers that a function can answer: 0, and 1 to 36.
+const NUMBERS: usize = 37;
+
 /// What was compared so far.
 #[derive(Default)]
 pub struct Tally {
-    pub streams: u64,
-    pub bodies: u64,
+    pub inputs: Inputs,
     pub calls: u64,
     /// For each function, how often each number was the right answer; 0 is acceptance.
-    answers: BTreeMap<&'static str, BTreeMap<u8, u64>>,
+    answers: Vec<(&'static str, [u64; NUMBERS])>,
 }
 
 impl Tally {
-    fn called(&mut self, function: &'static str, number: u8) {
+    pub fn called(&mut self, function: &'static str, number: u8) {
         self.calls += 1;
-        *self.answers.entry(function).or_default().entry(number).or_default() += 1;
+        let known = self.answers.iter().position(|(name, _)| *name == function);
+        let at = known.unwrap_or_else(|| {
+            self.answers.push((function, [0; NUMBERS]));
+            self.answers.len() - 1
+        });
+        self.answers[at].1[number as usize] += 1;
+    }
+
+    /// The numbers that a function had to answer, and how often.
+    fn given(&self, function: &str) -> Vec<(u8, u64)> {
+        let times = self.answers.iter().filter(|(name, _)| *name == function).flat_map(|(_, times)| times);
+        (0..).zip(times.copied()).filter(|(_, times)| *times > 0).collect()
     }
 
     /// A line for each function: how often it had to give each of its answers.
     pub fn answers(&self) -> String {
         let mut lines = String::new();
-        for (function, given) in &self.answers {
+        for (function, _) in &self.answers {
+            let given = self.given(function);
             let each: Vec<String> =
                 given.iter().map(|(number, times)| format!("{number}: {times}")).collect();
             lines += &format!("{function} answers {}\n", each.join(", "));
@@ -35,8 +88,8 @@ impl Tally {
     }
 
     /// A run that never came to one of a function's answers has not compared it.
-    pub fn met(&self, function: &'static str, numbers: &[u8]) -> Result<(), String> {
-        let given: Vec<u8> = self.answers.get(function).into_iter().flatten().map(|(n, _)| *n).collect();
+    pub fn met(&self, function: &str, numbers: &[u8]) -> Result<(), String> {
+        let given: Vec<u8> = self.given(function).into_iter().map(|(number, _)| number).collect();
         if given == numbers {
             return Ok(());
         }
@@ -110,6 +163,22 @@ pub fn record_call<H: Record>(
     same_number(answer, number)
         .and_then(|()| head.holds("record", head_then))
         .map_err(|what| format!("{name}: {what}"))
+}
+
+/// One call that is lent `room` bytes. It answers the number; the bytes then start with `first`, and are
+/// otherwise as they were.
+pub fn bytes_call(
+    tally: &mut Tally,
+    name: &'static str,
+    (number, first): (u8, &[u8]),
+    room: usize,
+    lent: &mut LentBytes,
+    call: impl FnOnce(*mut u8, usize) -> u8,
+) -> Result<(), String> {
+    let answer = call(lent.pointer(room), room);
+    tally.called(name, number);
+    let held = lent.hold(room, first);
+    same_number(answer, number).and(held).map_err(|what| format!("{name}, {room} bytes lent: {what}"))
 }
 
 fn same_number(answer: u8, number: u8) -> Result<(), String> {

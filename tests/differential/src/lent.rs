@@ -64,7 +64,61 @@ impl<R: Record> Lent<R> {
     }
 }
 
+/// Bytes before and after the lent ones.
+const BYTE_GUARD: usize = 16;
+
+/// Bytes that are lent again and again. Between calls they hold the pattern, so that small calls are cheap.
+#[derive(Default)]
+pub struct LentBytes {
+    bytes: Vec<u8>,
+    pattern: Vec<u8>,
+}
+
+impl LentBytes {
+    /// Where the first of `room` lent bytes stands: at every remainder modulo 16.
+    fn start(room: usize) -> usize {
+        BYTE_GUARD + room % 16
+    }
+
+    /// The first of `room` lent bytes. The pointer may reach the guards too.
+    pub fn pointer(&mut self, room: usize) -> *mut u8 {
+        let start = Self::start(room);
+        for i in self.bytes.len()..start + room + BYTE_GUARD {
+            self.pattern.push(mix(i as u64) as u8);
+            self.bytes.push(self.pattern[i]);
+        }
+        self.bytes[..].as_mut_ptr().wrapping_add(start)
+    }
+
+    /// What `room` lent bytes hold before a call.
+    pub fn before(&mut self, room: usize) -> &[u8] {
+        self.pointer(room);
+        &self.pattern[Self::start(room)..][..room]
+    }
+
+    /// Whether the `room` lent bytes now start with `first` and are otherwise as they were. Then they are made so.
+    pub fn hold(&mut self, room: usize, first: &[u8]) -> Result<(), String> {
+        let start = Self::start(room);
+        let (before, after, end) = (start - BYTE_GUARD, start + first.len(), start + room + BYTE_GUARD);
+        let (bytes, pattern) = (&mut self.bytes, &self.pattern);
+        if bytes[before..start] == pattern[before..start]
+            && bytes[start..after] == *first
+            && bytes[after..end] == pattern[after..end]
+        {
+            bytes[start..after].copy_from_slice(&pattern[start..after]);
+            return Ok(());
+        }
+        let wanted = |i| if (start..after).contains(&i) { first[i - start] } else { pattern[i] };
+        let at = (before..end).find(|i| bytes[*i] != wanted(*i)).expect("a byte that differs");
+        let why = if (start..after).contains(&at) { "" } else { ", as it was before the call" };
+        let (place, now) = (at as i64 - start as i64, bytes[at]);
+        bytes.copy_from_slice(pattern);
+        Err(format!("byte {place} is {now:02X}, it should be {:02X}{why}", wanted(at)))
+    }
+}
+
 /// Input bytes with others around them: what stands after the end would make a longer reading plausible.
+#[derive(Default)]
 pub struct Input {
     bytes: Vec<u8>,
     at: usize,
@@ -76,12 +130,19 @@ const AFTER: [u8; 24] = *b"PG\0\0\0\0\0\0\0\0\x80\0\0PG\0\0\0\0\0\0\0\0\x16";
 
 impl Input {
     pub fn new(content: &[u8]) -> Self {
-        let at = content.len() % 8;
-        let mut bytes = Vec::with_capacity(at + content.len() + AFTER.len());
-        bytes.resize(at, 0x50);
-        bytes.extend_from_slice(content);
-        bytes.extend_from_slice(&AFTER);
-        Input { bytes, at, len: content.len() }
+        let mut input = Input::default();
+        input.set(content);
+        input
+    }
+
+    /// Hands over other bytes.
+    pub fn set(&mut self, content: &[u8]) {
+        (self.at, self.len) = (content.len() % 8, content.len());
+        self.bytes.clear();
+        self.bytes.reserve(self.at + self.len + AFTER.len());
+        self.bytes.resize(self.at, 0x50);
+        self.bytes.extend_from_slice(content);
+        self.bytes.extend_from_slice(&AFTER);
     }
 
     pub fn pointer(&self) -> *const u8 {

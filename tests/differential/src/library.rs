@@ -56,6 +56,24 @@ mod c {
             count: *mut Count,
         ) -> u8;
         pub fn pgs_parse_ods(body: *const u8, body_len: usize, ods: *mut OdsRecord) -> u8;
+        pub fn pgs_decode_rle(
+            data: *const u8,
+            data_len: usize,
+            width: u16,
+            height: u16,
+            pixels: *mut u8,
+            pixels_len: usize,
+        ) -> u8;
+        pub fn pgs_ycbcr709_to_rgb(y: u8, cb: u8, cr: u8) -> u32;
+        pub fn pgs_clear_palette(table: *mut u8, table_len: usize) -> u8;
+        pub fn pgs_apply_palette(
+            entries: *const EntryRecord,
+            entries_len: usize,
+            palette_id: u8,
+            named: u8,
+            table: *mut u8,
+            table_len: usize,
+        ) -> u8;
     }
 }
 
@@ -122,4 +140,21 @@ pub fn parse_pds(
 
 pub fn parse_ods(body: &Input, ods: &mut Lent<OdsRecord>) -> u8 {
     unsafe { c::pgs_parse_ods(body.pointer(), body.len(), ods.pointer()) }
+}
+
+pub fn decode_rle(data: &Input, width: u16, height: u16, pixels: *mut u8, len: usize) -> u8 {
+    unsafe { c::pgs_decode_rle(data.pointer(), data.len(), width, height, pixels, len) }
+}
+
+/// R·65536 + G·256 + B.
+pub fn ycbcr709_to_rgb(y: u8, cb: u8, cr: u8) -> u32 {
+    unsafe { c::pgs_ycbcr709_to_rgb(y, cb, cr) }
+}
+
+pub fn clear_palette(table: *mut u8, len: usize) -> u8 {
+    unsafe { c::pgs_clear_palette(table, len) }
+}
+
+pub fn apply_palette(entries: &[EntryRecord], palette_id: u8, named: u8, table: *mut u8, len: usize) -> u8 {
+    unsafe { c::pgs_apply_palette(entries.as_ptr(), entries.len(), palette_id, named, table, len) }
 }

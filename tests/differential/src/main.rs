@@ -1,5 +1,7 @@
 //! Compares the library with the published Rust on many inputs.
 
+mod bitmap;
+mod color;
 mod compare;
 mod examples;
 mod generate;
@@ -8,13 +10,14 @@ mod library;
 mod numbers;
 mod prng;
 mod run;
+mod samples;
 mod segments;
 mod sheet;
 mod shrink;
 mod vast;
 
 use compare::Tally;
-use run::{unhex, Run};
+use run::{unhex, Layer, Run};
 use std::fs;
 use std::process::ExitCode;
 use std::time::Instant;
@@ -22,21 +25,26 @@ use std::time::Instant;
 const USAGE: &str = "\
 differential                                    the examples, then the comparison
 differential examples                           the examples alone
-differential compare [--seed N] [--streams N]   the comparison alone
+differential compare [--seed N] [--streams N] [--layer NAME]
+                                                the comparison alone; NAME is segments, bitmap or color
 differential stream HEX                         one stream
 differential body KIND HEX                      one body; KIND is 14, 15, 16 or 17
+differential bitmap HEX                         one bitmap: width and height, 2 bytes each, then the data
+differential color HEX                          one colour: Y, Cb, Cr
+differential palettes HEX                       palettes: the named id, then for each its id, its number of
+                                                entries in 2 bytes, and the entries
 HEX is hexadecimal digits, or @ and the name of a file that has them";
 
-const SEED: u64 = 1;
-const STREAMS: usize = 500_000;
+/// The layers in the order in which they are compared.
+const LAYERS: [Layer; 3] = [segments::LAYER, bitmap::LAYER, color::LAYER];
 
 fn main() -> ExitCode {
     let words: Vec<String> = std::env::args().skip(1).collect();
     let words: Vec<&str> = words.iter().map(String::as_str).collect();
     let outcome = match words[..] {
-        [] => run_examples().and_then(|()| run_comparison(SEED, STREAMS)),
+        [] => run_examples().and_then(|()| run_comparison(&Options::default())),
         ["examples"] => run_examples(),
-        ["compare", ref rest @ ..] => options(rest).and_then(|(seed, streams)| run_comparison(seed, streams)),
+        ["compare", ref rest @ ..] => options(rest).and_then(|options| run_comparison(&options)),
         ["stream", ref hex @ ..] => one(hex, |stream, tally| {
             segments::show(stream);
             segments::check_stream(stream, tally)
@@ -45,6 +53,9 @@ fn main() -> ExitCode {
             let kind = u8::from_str_radix(kind, 16).expect("two digits");
             one(hex, |body, tally| segments::check_body(kind, body, tally))
         }
+        ["bitmap", ref hex @ ..] => one(hex, bitmap::check),
+        ["color", ref hex @ ..] => one(hex, color::check_color),
+        ["palettes", ref hex @ ..] => one(hex, color::check_palettes),
         _ => Err(USAGE.to_string()),
     };
     match outcome {
@@ -59,20 +70,37 @@ fn main() -> ExitCode {
 fn run_examples() -> Result<(), String> {
     numbers::complete(published::PGS_TEXT)?;
     examples::run(&mut Tally::default())?;
+    samples::run(&mut Tally::default())?;
     sheet::run(&mut Tally::default())
 }
 
-/// The seed and the number of random streams.
-fn options(words: &[&str]) -> Result<(u64, usize), String> {
-    let (mut seed, mut streams) = (SEED, STREAMS);
+struct Options {
+    seed: u64,
+    /// The number of random streams.
+    streams: usize,
+    /// The layer to compare; none means all.
+    layer: Option<String>,
+}
+
+impl Default for Options {
+    fn default() -> Self {
+        Options { seed: 1, streams: 500_000, layer: None }
+    }
+}
+
+fn options(words: &[&str]) -> Result<Options, String> {
+    let mut options = Options::default();
     for pair in words.chunks(2) {
         match pair {
-            ["--seed", n] => seed = n.parse().map_err(|_| USAGE)?,
-            ["--streams", n] => streams = n.parse().map_err(|_| USAGE)?,
+            ["--seed", n] => options.seed = n.parse().map_err(|_| USAGE)?,
+            ["--streams", n] => options.streams = n.parse().map_err(|_| USAGE)?,
+            ["--layer", name] if LAYERS.iter().any(|layer| layer.name == *name) => {
+                options.layer = Some(name.to_string());
+            }
             _ => return Err(USAGE.to_string()),
         }
     }
-    Ok((seed, streams))
+    Ok(options)
 }
 
 /// Compares one input from the command line.
@@ -91,18 +119,22 @@ fn one(hex: &[&str], check: impl Fn(&[u8], &mut Tally) -> Result<(), String>) ->
     Ok(())
 }
 
-fn run_comparison(seed: u64, streams: usize) -> Result<(), String> {
+fn run_comparison(options: &Options) -> Result<(), String> {
     let began = Instant::now();
-    let mut run = Run::new(seed, streams);
-    run.layer("segments", &segments::groups());
+    let mut run = Run::new(options.seed, options.streams);
+    let chosen = |layer: &&Layer| options.layer.as_ref().is_none_or(|name| name == layer.name);
+    for layer in LAYERS.iter().filter(chosen) {
+        run.compare_layer(layer);
+    }
     let tally = &run.tally;
     print!("{}", tally.answers());
     println!(
-        "the same on {} streams and {} bodies, {} calls, seed {seed}, {} s",
-        tally.streams,
-        tally.bodies,
+        "the same on {}: {} calls, seed {}, {} s",
+        tally.inputs,
         tally.calls,
+        options.seed,
         began.elapsed().as_secs()
     );
-    segments::ANSWERS.iter().try_for_each(|(function, numbers)| tally.met(function, numbers))
+    let answers = LAYERS.iter().filter(chosen).flat_map(|layer| layer.answers);
+    answers.into_iter().try_for_each(|(function, numbers)| tally.met(function, numbers))
 }

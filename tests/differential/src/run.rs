@@ -7,12 +7,20 @@ use std::{env, fs, process};
 
 pub struct Run {
     pub seed: u64,
-    /// How many random streams to make.
+    /// How many random streams to make; other random inputs go by it.
     pub streams: usize,
     pub tally: Tally,
 }
 
-/// Inputs of one sort.
+/// What is compared together: a crate's functions.
+pub struct Layer {
+    pub name: &'static str,
+    pub groups: fn() -> Vec<Group>,
+    /// Each function with every answer that a run must come to.
+    pub answers: &'static [(&'static str, &'static [u8])],
+}
+
+/// Inputs of one kind.
 pub struct Group {
     pub name: &'static str,
     pub inputs: fn(&mut Run),
@@ -44,13 +52,13 @@ impl Run {
     }
 
     /// Compares the groups of a layer and prints how many inputs each had.
-    pub fn layer(&mut self, name: &str, groups: &[Group]) {
-        for group in groups {
-            let (streams, bodies) = (self.tally.streams, self.tally.bodies);
-            print!("{name}: {}: ", group.name);
+    pub fn compare_layer(&mut self, layer: &Layer) {
+        for group in (layer.groups)() {
+            let earlier = self.tally.inputs;
+            print!("{}: {}: ", layer.name, group.name);
             io::stdout().flush().expect("standard output");
             (group.inputs)(self);
-            println!("{} streams, {} bodies", self.tally.streams - streams, self.tally.bodies - bodies);
+            println!("{}", self.tally.inputs.since(earlier));
         }
     }
 }

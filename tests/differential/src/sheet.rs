@@ -3,6 +3,7 @@
 //! Under the heading of a number, a line 'Example: `HEX`' is a stream whose first set is to be painted, and
 //! 'Example, bitmap W by H: `HEX`' is the data of a bitmap. Each must be refused with that number.
 
+use crate::bitmap;
 use crate::compare::Tally;
 use crate::numbers::number_of;
 use crate::run::unhex;
@@ -44,12 +45,16 @@ fn example(number: u8, line: &str, tally: &mut Tally) -> Result<(), String> {
     let given = match sizes[..] {
         [] => {
             segments::check_stream(&bytes, tally)?;
-            paint_first(&bytes)
+            paint_first(&bytes).map_err(|e| number_of(&e))
         }
-        [width, height] => pgs::decode_rle(&bytes, width, height).map(|_| ()),
+        [width, height] => {
+            let decoded = bitmap::decoded(width, height, &bytes);
+            bitmap::check_decoded(width, height, &bytes, &decoded, tally)?;
+            decoded.map(|_| ())
+        }
         _ => return Err("neither a stream nor a bitmap".to_string()),
     };
-    match given.map_err(|e| number_of(&e)) {
+    match given {
         Err(given) if given == number => Ok(()),
         other => Err(format!("the published Rust says {other:?}")),
     }

@@ -12,6 +12,21 @@ pub enum Form {
     Stream,
     /// Bytes without heads.
     Bytes,
+    /// Width and height, 2 bytes each, then bytes without heads.
+    Bitmap,
+    /// Three bytes, as they are.
+    Color,
+}
+
+impl Form {
+    /// How many bytes at the front are never left out.
+    fn fixed(self) -> usize {
+        match self {
+            Form::Stream | Form::Bytes => 0,
+            Form::Bitmap => 4,
+            Form::Color => 3,
+        }
+    }
 }
 
 /// The smallest failing input found: shorter, or as long with more zeros.
@@ -23,8 +38,11 @@ pub fn smallest(form: Form, input: &[u8], fails: impl FnMut(&[u8]) -> bool) -> V
             search.cut_segments();
             search.cut_bodies();
         }
-        search.cut_bytes();
-        search.clear_bytes();
+        if form == Form::Bitmap {
+            search.lower_dimensions();
+        }
+        search.cut_bytes(form.fixed());
+        search.clear_bytes(form.fixed());
         if search.best == before {
             return before;
         }
@@ -103,10 +121,28 @@ impl<F: FnMut(&[u8]) -> bool> Search<F> {
         u16::from_be_bytes([self.best[at + 11], self.best[at + 12]]) as usize
     }
 
-    /// Leaves out runs of bytes.
-    fn cut_bytes(&mut self) {
-        for run in parts(self.best.len()) {
-            let mut from = 0;
+    /// Lowers the width and the height.
+    fn lower_dimensions(&mut self) {
+        for at in [0, 2] {
+            let dimension = u16::from_be_bytes([self.best[at], self.best[at + 1]]);
+            for part in parts(dimension as usize) {
+                loop {
+                    let now = u16::from_be_bytes([self.best[at], self.best[at + 1]]);
+                    let Some(lower) = now.checked_sub(part as u16) else { break };
+                    let mut smaller = self.best.clone();
+                    smaller[at..at + 2].copy_from_slice(&lower.to_be_bytes());
+                    if self.left == 0 || !self.attempt(smaller) {
+                        break;
+                    }
+                }
+            }
+        }
+    }
+
+    /// Leaves out runs of bytes, after those that are fixed.
+    fn cut_bytes(&mut self, fixed: usize) {
+        for run in parts(self.best.len() - fixed) {
+            let mut from = fixed;
             while from + run <= self.best.len() && self.left > 0 {
                 if !self.attempt_without(from, from + run) {
                     from += run;
@@ -115,9 +151,9 @@ impl<F: FnMut(&[u8]) -> bool> Search<F> {
         }
     }
 
-    /// Sets bytes to 0.
-    fn clear_bytes(&mut self) {
-        for at in 0..self.best.len() {
+    /// Sets bytes to 0, after those that are fixed.
+    fn clear_bytes(&mut self, fixed: usize) {
+        for at in fixed..self.best.len() {
             if self.best[at] != 0 && self.left > 0 {
                 let mut smaller = self.best.clone();
                 smaller[at] = 0;

@@ -1,5 +1,6 @@
 //! The layer of segments: the stream, and the bodies of PCS, WDS, PDS and ODS.
 
+mod examples;
 mod inputs;
 pub mod oracle;
 
@@ -7,10 +8,11 @@ use crate::compare::{list_calls, record_call, Tally, Wanted};
 use crate::generate::{ODS, PCS, PDS, WDS};
 use crate::lent::Input;
 use crate::library;
+use crate::run::Layer;
 use crate::vast::Vast;
 use published::pgs::SegmentBody;
 
-pub use inputs::groups;
+pub use examples::EXAMPLES;
 
 pub type WantedSegments = Wanted<library::Nothing, library::SegmentRecord>;
 pub type WantedPcs = Wanted<library::PcsRecord, library::PlacementRecord>;
@@ -18,14 +20,17 @@ pub type WantedWds = Wanted<library::Nothing, library::WindowRecord>;
 pub type WantedPds = Wanted<library::PdsRecord, library::EntryRecord>;
 pub type WantedOds = Result<library::OdsRecord, u8>;
 
-/// Every answer that a run of this layer must come to.
-pub const ANSWERS: [(&str, &[u8]); 5] = [
-    ("pgs_parse_segments", &[0, 1, 2, 3, 4, 5, 6, 34]),
-    ("pgs_parse_pcs", &[0, 4, 34]),
-    ("pgs_parse_wds", &[0, 4, 34]),
-    ("pgs_parse_pds", &[0, 4, 5, 34]),
-    ("pgs_parse_ods", &[0, 4]),
-];
+pub const LAYER: Layer = Layer {
+    name: "segments",
+    groups: inputs::groups,
+    answers: &[
+        ("pgs_parse_segments", &[0, 1, 2, 3, 4, 5, 6, 34]),
+        ("pgs_parse_pcs", &[0, 4, 34]),
+        ("pgs_parse_wds", &[0, 4, 34]),
+        ("pgs_parse_pds", &[0, 4, 5, 34]),
+        ("pgs_parse_ods", &[0, 4]),
+    ],
+};
 
 /// Compares everything that is said of a stream: its segments, and each body that stands in it whole.
 pub fn check_stream(stream: &[u8], tally: &mut Tally) -> Result<(), String> {
@@ -50,7 +55,7 @@ pub fn show(stream: &[u8]) {
 
 /// Compares the segment records of a stream with those wanted.
 pub fn check_segments(stream: &[u8], wanted: &WantedSegments, tally: &mut Tally) -> Result<(), String> {
-    tally.streams += 1;
+    tally.inputs.streams += 1;
     let input = Input::new(stream);
     let spare = stream.len() / 13 + 1;
     list_calls(tally, "pgs_parse_segments", wanted, spare, |nothing, list, count| {
@@ -116,7 +121,7 @@ pub fn check_body(kind: u8, body: &[u8], tally: &mut Tally) -> Result<(), String
 }
 
 pub fn check_pcs(body: &[u8], wanted: &WantedPcs, tally: &mut Tally) -> Result<(), String> {
-    tally.bodies += 1;
+    tally.inputs.bodies += 1;
     let input = Input::new(body);
     list_calls(tally, "pgs_parse_pcs", wanted, 256, |pcs, list, count| {
         library::parse_pcs(&input, pcs, list, count)
@@ -125,7 +130,7 @@ pub fn check_pcs(body: &[u8], wanted: &WantedPcs, tally: &mut Tally) -> Result<(
 }
 
 pub fn check_wds(body: &[u8], wanted: &WantedWds, tally: &mut Tally) -> Result<(), String> {
-    tally.bodies += 1;
+    tally.inputs.bodies += 1;
     let input = Input::new(body);
     list_calls(tally, "pgs_parse_wds", wanted, 256, |nothing, list, count| {
         library::parse_wds(&input, nothing, list, count)
@@ -134,7 +139,7 @@ pub fn check_wds(body: &[u8], wanted: &WantedWds, tally: &mut Tally) -> Result<(
 }
 
 pub fn check_pds(body: &[u8], wanted: &WantedPds, tally: &mut Tally) -> Result<(), String> {
-    tally.bodies += 1;
+    tally.inputs.bodies += 1;
     let input = Input::new(body);
     list_calls(tally, "pgs_parse_pds", wanted, body.len() / 5 + 1, |pds, list, count| {
         library::parse_pds(&input, pds, list, count)
@@ -143,7 +148,7 @@ pub fn check_pds(body: &[u8], wanted: &WantedPds, tally: &mut Tally) -> Result<(
 }
 
 pub fn check_ods(body: &[u8], wanted: &WantedOds, tally: &mut Tally) -> Result<(), String> {
-    tally.bodies += 1;
+    tally.inputs.bodies += 1;
     let input = Input::new(body);
     record_call(tally, "pgs_parse_ods", wanted, |ods| library::parse_ods(&input, ods))?;
     input.holds(body)
@@ -172,7 +177,7 @@ pub fn check_past_4_gib(tally: &mut Tally) -> Result<bool, String> {
 
 /// As `check_segments`, without the copy of the stream.
 fn vast_calls(stream: &[u8], wanted: &WantedSegments, tally: &mut Tally) -> Result<(), String> {
-    tally.streams += 1;
+    tally.inputs.streams += 1;
     let spare = stream.len() / 60_000;
     list_calls(tally, "pgs_parse_segments", wanted, spare, |_, list, count| {
         library::parse_segments_at(stream.as_ptr(), stream.len(), list, count)
