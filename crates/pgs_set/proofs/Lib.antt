@@ -1,0 +1,4 @@
+pub mod Choices
+pub mod GroupLaws
+pub mod SetLaws
+pub mod WalkLaws

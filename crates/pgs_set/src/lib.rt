@@ -1,0 +1,2 @@
+pub mod grouping;
+pub mod set;
