@@ -7,7 +7,8 @@ use mathlib.Core.List.{List, []}
 use lib.ListN.{length, drop, getD}
 use Rattle.pgs_base.specs.Outcome.{accepted}
 use Rattle.pgs_segment.specs.Stream.{readOf, streamVerdict}
-use Rattle.pgs_set.specs.Sets.{DisplaySet, groupVerdict, setsFrom, setsOf, throughEnd, bytesIn}
+use Rattle.pgs_set.specs.Objects.{noSet, setNumber, Fragment, fragmentsFrom}
+use Rattle.pgs_set.specs.Sets.{DisplaySet, groupVerdict, setsFrom, throughEnd, bytesIn}
 use Rattle.pgs_set.specs.declared.grouping.Grouping.{Grouping}
 use Rattle.pgs_set.specs.declared.grouping.Grouping.the-variants.{Outside, Inside}
 
@@ -30,9 +31,6 @@ pub record InSet (s : List ℕ) (at : ℕ) : Type 0 where
 abbrev pub endFrom : List ℕ → ℕ → ℕ
 endFrom s at = at + bytesIn (throughEnd (piecesAt s at))
 
-abbrev pub noSet : DisplaySet
-noSet = record { place = 0; opening = []; others = [] }
-
 -- the set whose PCS stands at a place
 abbrev pub setAt : List ℕ → ℕ → DisplaySet
 setAt s at = getD (setsFrom at (piecesAt s at)) 0 noSet
@@ -48,4 +46,8 @@ pub record Ends (s : List ℕ) (at r : ℕ) : Type 0 where
 pub record SetStands (s : List ℕ) (k r : ℕ) : Type 0 where
   pub standing : Standing Outside s r
   pub more : r < length s
-  pub found : setAt s r ≡ getD (setsOf s) k noSet
+  pub found : setAt s r ≡ setNumber k s
+
+-- the fragments from a place on in the set that is open there
+abbrev pub fragmentsLeft : List ℕ → ℕ → List Fragment
+fragmentsLeft s at = fragmentsFrom at (throughEnd (piecesAt s at))

@@ -1,2 +1,4 @@
+pub mod chain;
 pub mod grouping;
+pub mod object;
 pub mod set;

@@ -1,0 +1,119 @@
+-- Reading the fragment of an ODS segment, and the fragments that are left in a set. Assumes nothing.
+use mathlib.Core.Path.{_≡_, refl, sym, ap, _∙_}
+use mathlib.Core.Bool.{Bool, true, false}
+use mathlib.Core.List.{List, [], _∷_, _++_}
+use Prim.Native.Nat.{ℕ, _+_, _-_, _≤_, _<_}
+use native.Mathlib.Omega.{arith}
+use borrow.Author.Tests.{leb-true}
+use lib.Dec.{leb}
+use lib.ListN.{length, take, drop, length-drop, length-take}
+use lib.Seq.{drop-drop, length-take-le, take-take}
+use Rattle.pgs_base.specs.Outcome.{Verdict, accepted, refused, Outcome, gives, refuses, outcomeOf, andThen, unless, pick}
+use Rattle.pgs_base.proofs.Outcomes.{gave-value, turned-down, first-accepts, second-holds, holds}
+use Rattle.pgs_segment.specs.Fields.{bodyVerdict}
+use Rattle.pgs_segment.specs.Header.{sizeOf}
+use Rattle.pgs_segment.specs.OdsBody.{fragmentOf, isFirst, isLast, flagOf, headSize, odsOf, odsData, odsList, odsVerdict}
+use Rattle.pgs_segment.specs.OneSegment.{segmentType, segmentVerdict, usedBy, bodyAt}
+use Rattle.pgs_segment.specs.Stream.{stepVerdict}
+use Rattle.pgs_segment.proofs.SegmentLaws.{accepted-body}
+use Rattle.pgs_segment.proofs.StreamLaws.{step-within}
+use Rattle.pgs_segment.specs.declared.header.SegmentType.{SegmentType}
+use Rattle.pgs_segment.specs.declared.header.SegmentType.the-variants.{Pds, Ods, Pcs, Wds, End, Other}
+use Rattle.pgs_segment.specs.declared.ods.FragmentFlag.{FragmentFlag}
+use Rattle.pgs_segment.specs.declared.ods.Ods as declared-ods
+use Rattle.pgs_segment.specs.declared.segment.BodyList.{BodyList}
+use Rattle.pgs_set.proofs.Choices.{pick-first, pick-second}
+use Rattle.pgs_set.proofs.WalkLaws.{pieces-here, type-of-piece, piece-length, head-field, within-here}
+use Rattle.pgs_set.specs.Objects.{Fragment, isOds, fragmentAt, fragmentsFrom, idOf, widthIn, heightIn, joined}
+use Rattle.pgs_set.specs.Sets.{isEnd, throughEnd}
+use Rattle.pgs_set.specs.Tables.{headOf}
+use Rattle.pgs_set.specs.Walks.{piecesAt, fragmentsLeft}
+use Rattle.pgs_set.specs.declared.chain.FragmentHead.{FragmentHead}
+
+ods-only : (t : SegmentType) → isOds t ≡ true → t ≡ Ods
+ods-only Ods e = refl
+ods-only Pcs e = cc
+ods-only Wds e = cc
+ods-only Pds e = cc
+ods-only End e = cc
+ods-only (Other v) e = cc
+
+-- an accepted ODS segment
+module _ (l : List ℕ) (ok : stepVerdict l ≡ accepted) (kind : isOds (segmentType l) ≡ true) where
+  pub body-accepted : odsVerdict (bodyAt l) ≡ accepted
+  body-accepted =
+      sym (ap (λ (t : SegmentType). bodyVerdict t (bodyAt l)) (ods-only (segmentType l) kind))
+      ∙ accepted-body l (first-accepts (segmentVerdict l) _ ok)
+
+  -- its numbers lie within its body
+  pub numbers-within : headSize (flagOf (bodyAt l)) ≤ sizeOf l
+  numbers-within =
+      omega
+      (arith, leb-true (headSize (flagOf (bodyAt l))) (length (bodyAt l)) (holds 4 _ (second-holds (unless 4 (leb 7 (length (bodyAt l)))) _ body-accepted)), length-take (sizeOf l) (drop 13 l))
+
+-- the body as the code lends it
+pub lent-body : (s : List ℕ) (at : ℕ) {used : ℕ} → used ≡ usedBy (drop at s) → take (at + used - (at + 13)) (drop (at + 13) s) ≡ bodyAt (drop at s)
+lent-body s at {used} e =
+    let size : at + used - (at + 13) ≡ sizeOf (drop at s) = omega arith in
+    (λ j. take (size j) (sym (drop-drop 13 at s) j))
+
+-- what reading a body answers
+abbrev pub read-as : List ℕ → Outcome (declared-ods.Ods × BodyList)
+read-as b = outcomeOf (odsVerdict b) (odsOf b, odsList b)
+
+-- over the body as it is
+module _ (s : List ℕ) (at : ℕ) {used : ℕ} (e : used ≡ usedBy (drop at s)) where
+  lent-answer : {o : Outcome (declared-ods.Ods × BodyList)}
+      → o ≡ read-as (take (at + used - (at + 13)) (drop (at + 13) s))
+      → o ≡ read-as (bodyAt (drop at s))
+  lent-answer q = q ∙ ap read-as (lent-body s at e)
+
+  -- the numbers and the part of the data
+  pub numbers-read : {o : declared-ods.Ods} {d : BodyList}
+      → _≡_ {A = Outcome (declared-ods.Ods × BodyList)} (gives (o, d)) (read-as (take (at + used - (at + 13)) (drop (at + 13) s)))
+      → (o ≡ odsOf (bodyAt (drop at s))) × (d ≡ odsList (bodyAt (drop at s)))
+  numbers-read q =
+      let p = gave-value (odsVerdict (bodyAt (drop at s))) (odsOf (bodyAt (drop at s)), odsList (bodyAt (drop at s))) (lent-answer q) in
+      (ap (λ (x : declared-ods.Ods × BodyList). x .0) p, ap (λ (x : declared-ods.Ods × BodyList). x .1) p)
+
+  -- it cannot be refused
+  pub never-refused : {k : ℕ} → stepVerdict (drop at s) ≡ accepted → isOds (segmentType (drop at s)) ≡ true
+      → refuses k ≡ read-as (take (at + used - (at + 13)) (drop (at + 13) s))
+      → ⊥
+  never-refused {k} ok kind q =
+      let z : refused k ≡ accepted
+      = sym (turned-down (odsVerdict (bodyAt (drop at s))) (odsOf (bodyAt (drop at s)), odsList (bodyAt (drop at s))) (lent-answer q))
+        ∙ body-accepted (drop at s) ok kind in
+      let y : _≡_ {A = ℕ} 0 1 = cc in omega arith
+
+-- the numbers that were read are the fragment's
+pub head-read : (at : ℕ) (l : List ℕ) {o : declared-ods.Ods} {d : BodyList} {w h : ℕ} {a b : FragmentFlag} {f g : Bool}
+    → (o ≡ odsOf (bodyAt l)) × (d ≡ odsList (bodyAt l)) → w ≡ widthIn (o .dimensions) → h ≡ heightIn (o .dimensions)
+    → a ≡ fragmentOf (o .«last_in_sequence_flag») → f ≡ isFirst a → b ≡ fragmentOf (o .«last_in_sequence_flag») → g ≡ isLast b
+    → record {
+      id = o .«object_id»;
+      version = o .«object_version_number»;
+      width = w;
+      height = h;
+      declared = o .«object_data_length»;
+      first = f;
+      last = g;
+      place = at;
+      start = at + 13 + d .start;
+      len = d .len;
+    }
+    ≡ headOf (fragmentAt at l)
+head-read at l p ew eh ea ef eb eg =
+    λ j.
+    record {
+      id = p .0 j .«object_id»;
+      version = p .0 j .«object_version_number»;
+      width = (ew ∙ ap (λ (o : declared-ods.Ods). widthIn (o .dimensions)) (p .0)) j;
+      height = (eh ∙ ap (λ (o : declared-ods.Ods). heightIn (o .dimensions)) (p .0)) j;
+      declared = p .0 j .«object_data_length»;
+      first = (ef ∙ ap isFirst ea ∙ ap (λ (o : declared-ods.Ods). isFirst (fragmentOf (o .«last_in_sequence_flag»))) (p .0)) j;
+      last = (eg ∙ ap isLast eb ∙ ap (λ (o : declared-ods.Ods). isLast (fragmentOf (o .«last_in_sequence_flag»))) (p .0)) j;
+      place = at;
+      start = at + 13 + p .1 j .start;
+      len = (ap (λ (x : BodyList). x .len) (p .1) ∙ sym (length-drop (headSize (flagOf (bodyAt l))) (bodyAt l))) j;
+    }
