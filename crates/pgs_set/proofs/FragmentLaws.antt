@@ -7,7 +7,7 @@ use native.Mathlib.Omega.{arith}
 use borrow.Author.Tests.{leb-true}
 use lib.Dec.{leb}
 use lib.ListN.{length, take, drop, length-drop, length-take}
-use lib.Seq.{drop-drop, length-take-le, take-take}
+use lib.Seq.{drop-drop, drop-at, length-take-le, take-add, take-take}
 use Rattle.pgs_base.specs.Outcome.{Verdict, accepted, refused, Outcome, gives, refuses, outcomeOf, andThen, unless, pick}
 use Rattle.pgs_base.proofs.Outcomes.{gave-value, turned-down, first-accepts, second-holds, holds}
 use Rattle.pgs_segment.specs.Fields.{bodyVerdict}
@@ -23,7 +23,7 @@ use Rattle.pgs_segment.specs.declared.ods.FragmentFlag.{FragmentFlag}
 use Rattle.pgs_segment.specs.declared.ods.Ods as declared-ods
 use Rattle.pgs_segment.specs.declared.segment.BodyList.{BodyList}
 use Rattle.pgs_set.proofs.Choices.{pick-first, pick-second}
-use Rattle.pgs_set.proofs.WalkLaws.{pieces-here, type-of-piece, piece-length, head-field, within-here}
+use Rattle.pgs_set.proofs.WalkLaws.{step-length, pieces-here, type-of-piece, piece-length, head-field, within-here}
 use Rattle.pgs_set.specs.Objects.{Fragment, isOds, fragmentAt, fragmentsFrom, idOf, widthIn, heightIn, joined}
 use Rattle.pgs_set.specs.Sets.{isEnd, throughEnd}
 use Rattle.pgs_set.specs.Tables.{headOf}
@@ -83,7 +83,7 @@ module _ (s : List ℕ) (at : ℕ) {used : ℕ} (e : used ≡ usedBy (drop at s)
   never-refused {k} ok kind q =
       let z : refused k ≡ accepted
       = sym (turned-down (odsVerdict (bodyAt (drop at s))) (odsOf (bodyAt (drop at s)), odsList (bodyAt (drop at s))) (lent-answer q))
-        ∙ body-accepted (drop at s) ok kind in
+      ∙ body-accepted (drop at s) ok kind in
       let y : _≡_ {A = ℕ} 0 1 = cc in omega arith
 
 -- the numbers that were read are the fragment's
@@ -117,3 +117,37 @@ head-read at l p ew eh ea ef eb eg =
       start = at + 13 + p .1 j .start;
       len = (ap (λ (x : BodyList). x .len) (p .1) ∙ sym (length-drop (headSize (flagOf (bodyAt l))) (bodyAt l))) j;
     }
+
+-- the data of a fragment is shorter than its segment
+pub bytes-within : (at : ℕ) (l : List ℕ) → stepVerdict l ≡ accepted → isOds (segmentType l) ≡ true → length (fragmentAt at l .bytes) ≤ usedBy l
+bytes-within at l ok kind = omega (arith, length-drop (headSize (flagOf (bodyAt l))) (bodyAt l), length-take (sizeOf l) (drop 13 l))
+
+-- a segment's body is in its own bytes
+body-of-piece : (l : List ℕ) → stepVerdict l ≡ accepted → bodyAt (take (usedBy l) l) ≡ bodyAt l
+body-of-piece l ok =
+    (λ j. take (head-field 2 11 l ok (omega arith) j) (behind j)) ∙ take-take (sizeOf l) (sizeOf l) (drop 13 l) (omega arith)
+  where
+    behind : drop 13 (take (usedBy l) l) ≡ take (sizeOf l) (drop 13 l)
+    behind = ap (drop 13) (take-add 13 (sizeOf l) l) ∙ drop-at (take 13 l) (take (sizeOf l) (drop 13 l)) 13 (length-take-le 13 l (step-length l ok))
+
+-- the fragments that are left, by the next segment
+pub fragments-here : (s : List ℕ) (at : ℕ) → stepVerdict (drop at s) ≡ accepted
+    → fragmentsLeft s at
+    ≡ pick (isOds (segmentType (drop at s))) (fragmentAt at (drop at s) ∷ pick (isEnd (segmentType (drop at s))) [] (fragmentsLeft s (at + usedBy (drop at s))))
+    (pick (isEnd (segmentType (drop at s))) [] (fragmentsLeft s (at + usedBy (drop at s))))
+fragments-here s at ok =
+    ap (λ (xs : List (List ℕ)). fragmentsFrom at (throughEnd xs)) (pieces-here s at ok)
+    ∙ (λ j.
+    pick (isOds (type-of-piece (drop at s) ok j)) (piece j ∷ fragmentsFrom (at + piece-length (drop at s) ok j) (after j)) (fragmentsFrom (at + piece-length (drop at s) ok j) (after j)))
+    ∙ ap (λ (l : List Fragment). pick (isOds (segmentType (drop at s))) (fragmentAt at (drop at s) ∷ l) l) (parts (isEnd (segmentType (drop at s))))
+  where
+    piece : fragmentAt at (take (usedBy (drop at s)) (drop at s)) ≡ fragmentAt at (drop at s)
+    piece = λ j. record { place = at; ods = odsOf (body-of-piece (drop at s) ok j); bytes = odsData (body-of-piece (drop at s) ok j) }
+
+    after : pick (isEnd (segmentType (take (usedBy (drop at s)) (drop at s)))) [] (throughEnd (piecesAt s (at + usedBy (drop at s))))
+        ≡ pick (isEnd (segmentType (drop at s))) [] (throughEnd (piecesAt s (at + usedBy (drop at s))))
+    after = ap (λ (t : SegmentType). pick (isEnd t) [] (throughEnd (piecesAt s (at + usedBy (drop at s))))) (type-of-piece (drop at s) ok)
+
+    parts : (b : Bool) → fragmentsFrom (at + usedBy (drop at s)) (pick b [] (throughEnd (piecesAt s (at + usedBy (drop at s))))) ≡ pick b [] (fragmentsLeft s (at + usedBy (drop at s)))
+    parts true = refl
+    parts false = refl

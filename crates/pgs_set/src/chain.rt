@@ -5,14 +5,14 @@ use pgs_base::refusal::Refusal;
 use pgs_segment::header::SegmentType;
 use pgs_segment::ods::Dimensions;
 use pgs_segment::ods::FragmentFlag;
-use pgs_segment::ods::OdsAnswer;
 use pgs_segment::ods::Ods;
+use pgs_segment::ods::OdsAnswer;
 use pgs_segment::segment::BodyList;
 ghost use mathlib.Core.Path.{_≡_};
 ghost use Prim.Native.Nat.{_+_, _≤_, _<_, _^_};
-ghost use mathlib.Core.Bool.{true};
+ghost use mathlib.Core.Bool.{true, false};
 ghost use lib.ListN.{length, take, drop};
-ghost use Rattle.pgs_base.specs.Outcome.{accepted};
+ghost use Rattle.pgs_base.specs.Outcome.{accepted, pick};
 ghost use Rattle.pgs_segment.specs.OneSegment.{segmentType, usedBy};
 ghost use Rattle.pgs_segment.specs.Stream.{stepVerdict};
 ghost use Rattle.pgs_set.specs.Objects.{isOds, widthIn, heightIn, fragmentAt};
@@ -127,4 +127,119 @@ fn find_row(rows: &[[usize; 10]], id: usize) -> usize
         i += 1;
     }
     i
+}
+
+fn one_if(b: bool) -> usize
+    ensures { λ r. ⌜ r ≡ pick b 1 0 ⌝ }
+{
+    if b { 1 } else { 0 }
+}
+
+// A first fragment opens a chain, unless its id is known, which stands at row i, or the table is full.
+fn open_chain(table: &mut [[usize; 10]], n: usize, i: usize, f: FragmentHead) -> ChainsAnswer
+    requires { ⌜ n ≤ length (now table) ⌝ }
+    requires { ⌜ i ≡ rowWith (f .id) (take n (now table)) ⌝ }
+    requires { ⌜ f .first ≡ true ⌝ }
+    ensures { λ r. ⌜ Took (now (table .entry)) (now (table .exit)) n f (chainsOutcome r) ⌝ }
+{
+    if i < n {
+        let row = table[i];
+        if row[5] == 0 {
+            return ChainsAnswer::Refused(Refusal::FirstFragmentWhileOpen);
+        }
+        return ChainsAnswer::Refused(Refusal::DuplicateObject);
+    }
+    if n < table.len() {
+        let ended = one_if(f.last);
+        table[n] = [
+            f.id,
+            f.version,
+            f.width,
+            f.height,
+            f.declared,
+            ended,
+            0,
+            f.place,
+            f.start,
+            f.len,
+        ];
+        return ChainsAnswer::Chains(n + 1);
+    }
+    ChainsAnswer::Refused(Refusal::TooManyObjects)
+}
+
+// A continuation extends the chain of its id, which stands at row i, if it is open.
+fn continue_chain(table: &mut [[usize; 10]], n: usize, i: usize, f: FragmentHead) -> ChainsAnswer
+    requires { ⌜ n ≤ length (now table) ⌝ }
+    requires { ⌜ i ≡ rowWith (f .id) (take n (now table)) ⌝ }
+    requires { ⌜ f .first ≡ false ⌝ }
+    requires { ⌜ total (take n (now table)) + f .len < 2 ^ 64 ⌝ }
+    ensures { λ r. ⌜ Took (now (table .entry)) (now (table .exit)) n f (chainsOutcome r) ⌝ }
+{
+    if i < n {
+        let row = table[i];
+        if row[5] != 0 {
+            return ChainsAnswer::Refused(Refusal::FragmentAfterLast);
+        }
+        let ended = one_if(f.last);
+        let len = row[9] + f.len;
+        table[i] = [
+            row[0],
+            row[1],
+            row[2],
+            row[3],
+            row[4],
+            ended,
+            1,
+            row[7],
+            row[8],
+            len,
+        ];
+        return ChainsAnswer::Chains(n);
+    }
+    ChainsAnswer::Refused(Refusal::FragmentWithoutFirst)
+}
+
+// Takes one more fragment into the table, whose first n rows are the chains of those before it.
+fn take_fragment(table: &mut [[usize; 10]], n: usize, f: FragmentHead) -> ChainsAnswer
+    requires { ⌜ n ≤ length (now table) ⌝ }
+    requires { ⌜ total (take n (now table)) + f .len < 2 ^ 64 ⌝ }
+    ensures { λ r. ⌜ Took (now (table .entry)) (now (table .exit)) n f (chainsOutcome r) ⌝ }
+{
+    let i = find_row(&table[..n], f.id);
+    if f.first {
+        open_chain(table, n, i, f)
+    } else {
+        continue_chain(table, n, i, f)
+    }
+}
+
+// Finds the chains of the set that is open at `from`: their rows fill the table, whose length is the limit.
+pub(crate) fn find_chains(s: &[u8], from: usize, table: &mut [[usize; 10]]) -> ChainsAnswer
+    requires { ⌜ InSet (now s) from ⌝ }
+    ensures { λ r. ⌜ FoundChains (fragmentsLeft (now (s .entry)) from) (length (now (s .entry))) (now (table .exit)) (chainsOutcome r) ⌝ }
+{
+    let mut at = from;
+    let mut n: usize = 0;
+    loop {
+        let header = header_at(s, at);
+        let used = 13 + header.segment_size as usize;
+        let kind = SegmentType::from_raw(header.segment_type);
+        if is_end(kind) {
+            return ChainsAnswer::Chains(n);
+        }
+        if is_ods(kind) {
+            match take_fragment(table, n, read_fragment(s, at, used)) {
+                ChainsAnswer::Refused(why) => {
+                    return ChainsAnswer::Refused(why);
+                }
+                ChainsAnswer::Chains(more) => {
+                    n = more;
+                    at += used;
+                }
+            }
+        } else {
+            at += used;
+        }
+    }
 }
