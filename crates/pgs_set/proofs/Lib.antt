@@ -3,6 +3,8 @@ pub mod Choices
 pub mod FindLaws
 pub mod FragmentLaws
 pub mod GroupLaws
+pub mod ListingLaws
+pub mod Lists
 pub mod SetLaws
 pub mod TableLaws
 pub mod WalkLaws

@@ -14,6 +14,8 @@ use Rattle.pgs_set.specs.Walks.{fragmentsLeft}
 use Rattle.pgs_set.specs.declared.chain.FragmentHead.{FragmentHead}
 use Rattle.pgs_set.specs.declared.chain.ChainsAnswer.{ChainsAnswer}
 use Rattle.pgs_set.specs.declared.chain.ChainsAnswer.the-variants.{Chains, Refused}
+use Rattle.pgs_set.specs.declared.listing.JoinedAnswer.{JoinedAnswer}
+use Rattle.pgs_set.specs.declared.listing.JoinedAnswer.the-variants as checks
 
 -- the numbers of a fragment
 abbrev pub headOf : Fragment → FragmentHead
@@ -91,3 +93,54 @@ pub record FoundChains (fs : List Fragment) (bound : ℕ) (table′ : List (List
   pub accepts : (n : ℕ) → answer ≡ gives n → verdictAfter (length table′) [] fs ≡ accepted
   pub holds : (n : ℕ) → answer ≡ gives n → Holds fs table′ n
   pub small : (n : ℕ) → answer ≡ gives n → total (take n table′) ≤ bound
+
+-- what the rows say of their objects: 20, 21, 22
+abbrev pub rowVerdict : List ℕ → Verdict
+rowVerdict r =
+    andThen (unless 20 (eqb (getD r 5 0) 1))
+    (andThen (unless 21 (leb 4 (getD r 4 0))) (unless 22 (eqb (getD r 4 0 - 4) (getD r 9 0))))
+
+abbrev pub rowsVerdict : List (List ℕ) → Verdict
+rowsVerdict [] = accepted
+rowsVerdict (r ∷ rs) = andThen (rowVerdict r) (rowsVerdict rs)
+
+-- how many bytes of the scratch a row's object takes, and all of them
+abbrev pub copiedIn : List ℕ → ℕ
+copiedIn r = pick (eqb (getD r 6 0) 0) 0 (getD r 9 0)
+
+abbrev pub joinedIn : List (List ℕ) → ℕ
+joinedIn [] = 0
+joinedIn (r ∷ rs) = copiedIn r + joinedIn rs
+
+abbrev pub joinedOutcome : JoinedAnswer → Outcome ℕ
+joinedOutcome (checks.Joined n) = gives n
+joinedOutcome (checks.Refused r) = refuses (numberOf r)
+
+-- the place of a row's data, in the stream or from `at` on in the scratch
+abbrev pub placeIn : ℕ → List ℕ → ℕ
+placeIn at r = pick (eqb (getD r 6 0) 0) (getD r 8 0) at
+
+-- the object records of rows
+abbrev pub recordRow : ℕ → List ℕ → List ℕ
+recordRow at r =
+    getD r 0 0 ∷ getD r 1 0 ∷ getD r 2 0 ∷ getD r 3 0 ∷ getD r 6 0 ∷ placeIn at r ∷ getD r 9 0 ∷ []
+
+abbrev pub recordsFrom : ℕ → List (List ℕ) → List (List ℕ)
+recordsFrom at [] = []
+recordsFrom at (r ∷ rs) = recordRow at r ∷ recordsFrom (at + copiedIn r) rs
+
+-- the joined data of a row's object: that of the fragments with its id from its first segment on
+abbrev pub rowData : List ℕ → List ℕ → List ℕ
+rowData s r = joined (withId (getD r 0 0) (fragmentsLeft s (getD r 7 0)))
+
+abbrev pub rowBytes : List ℕ → List ℕ → List ℕ
+rowBytes s r = pick (eqb (getD r 6 0) 0) [] (rowData s r)
+
+abbrev pub joinedRows : List ℕ → List (List ℕ) → List ℕ
+joinedRows s [] = []
+joinedRows s (r ∷ rs) = rowBytes s r ++ joinedRows s rs
+
+-- the rows' lengths are those of their data
+abbrev pub Measured : List ℕ → List (List ℕ) → Type 0
+Measured s [] = Unit {0}
+Measured s (r ∷ rs) = (length (rowData s r) ≡ getD r 9 0) × Measured s rs
