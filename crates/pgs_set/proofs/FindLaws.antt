@@ -15,8 +15,7 @@ use Rattle.pgs_segment.specs.Stream.{stepVerdict}
 use Rattle.pgs_segment.specs.declared.header.SegmentHeader.{SegmentHeader}
 use Rattle.pgs_segment.specs.declared.header.SegmentType.{SegmentType}
 use Rattle.pgs_segment.specs.declared.header.SegmentType.the-variants.{Pds, Ods, Pcs, Wds, End, Other}
-use Rattle.pgs_set.proofs.Choices.{pick-first, pick-second}
-use Rattle.pgs_set.proofs.FragmentLaws.{fragments-here, bytes-within}
+use Rattle.pgs_set.proofs.FragmentLaws.{none-left, left-same, left-next, bytes-within}
 use Rattle.pgs_set.proofs.SetLaws.{kind-read, size-read, inside-here, inside-on}
 use Rattle.pgs_set.proofs.WalkLaws.{within-here}
 use Rattle.pgs_set.specs.Objects.{Fragment, isOds, fragmentAt, chainsOf, fragmentVerdict, verdictAfter}
@@ -70,16 +69,7 @@ module _ (s : List ℕ) (from : ℕ) where
           }
         where
           none : fragmentsLeft s at ≡ []
-          none = fragments-here s at finds-here ∙ go (segmentType (drop at s)) (sym end-is ∙ y)
-            where
-              go : (k : SegmentType) → isEnd k ≡ true
-                  → pick (isOds k) (fragmentAt at (drop at s) ∷ pick (isEnd k) [] (fragmentsLeft s (at + usedBy (drop at s)))) (pick (isEnd k) [] (fragmentsLeft s (at + usedBy (drop at s)))) ≡ []
-              go Pcs z = cc
-              go Wds z = cc
-              go Pds z = cc
-              go Ods z = cc
-              go End z = refl
-              go (Other v) z = cc
+          none = none-left s at finds-here (sym end-is ∙ y)
 
           whole : c .earlier ≡ fragmentsLeft s from
           whole = sym (append-nil (c .earlier)) ∙ ap (λ (l : List Fragment). c .earlier ++ l) (sym none) ∙ c .split
@@ -91,15 +81,10 @@ module _ (s : List ℕ) (from : ℕ) where
         ods-is : o ≡ isOds (segmentType (drop at s))
         ods-is = oe ∙ ap isOds its-kind
 
-        left : fragmentsLeft s at ≡ pick (isOds (segmentType (drop at s))) (fragmentAt at (drop at s) ∷ fragmentsLeft s (at + usedBy (drop at s))) (fragmentsLeft s (at + usedBy (drop at s)))
-        left =
-            fragments-here s at finds-here
-            ∙ ap (λ (l : List Fragment). pick (isOds (segmentType (drop at s))) (fragmentAt at (drop at s) ∷ l) l) (pick-second [] (fragmentsLeft s (at + usedBy (drop at s))) goes)
-
         -- a segment that is no ODS is passed
         pub finds-on : o ≡ false → Finding s from room table (at + (13 + h .«segment_size»)) n
         finds-on z =
-            let same : fragmentsLeft s at ≡ fragmentsLeft s (at + usedBy (drop at s)) = left ∙ pick-second _ _ (sym ods-is ∙ z) in
+            let same : fragmentsLeft s at ≡ fragmentsLeft s (at + usedBy (drop at s)) = left-same s at finds-here goes (sym ods-is ∙ z) in
             rw (size-read (drop at s) e)
             (record {
               inSet = inside-on s (c .inSet) goes;
@@ -116,7 +101,7 @@ module _ (s : List ℕ) (from : ℕ) where
           its-ods = sym ods-is ∙ z
 
           next : fragmentsLeft s at ≡ fragmentAt at (drop at s) ∷ fragmentsLeft s (at + usedBy (drop at s))
-          next = left ∙ pick-first _ _ its-ods
+          next = left-next s at finds-here goes its-ods
 
           -- the lengths fit
           pub finds-fit : {f : FragmentHead} → f ≡ headOf (fragmentAt at (drop at s)) → total (take n table) + f .len ≤ length s

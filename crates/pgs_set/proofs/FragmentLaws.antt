@@ -24,7 +24,7 @@ use Rattle.pgs_segment.specs.declared.ods.Ods as declared-ods
 use Rattle.pgs_segment.specs.declared.segment.BodyList.{BodyList}
 use Rattle.pgs_set.proofs.Choices.{pick-first, pick-second}
 use Rattle.pgs_set.proofs.WalkLaws.{step-length, pieces-here, type-of-piece, piece-length, head-field, within-here}
-use Rattle.pgs_set.specs.Objects.{Fragment, isOds, fragmentAt, fragmentsFrom, idOf, widthIn, heightIn, joined}
+use Rattle.pgs_set.specs.Objects.{Fragment, isOds, fragmentAt, fragmentsFrom, dataPlace, widthIn, heightIn}
 use Rattle.pgs_set.specs.Sets.{isEnd, throughEnd}
 use Rattle.pgs_set.specs.Tables.{headOf}
 use Rattle.pgs_set.specs.Walks.{piecesAt, fragmentsLeft}
@@ -151,3 +151,59 @@ fragments-here s at ok =
     parts : (b : Bool) → fragmentsFrom (at + usedBy (drop at s)) (pick b [] (throughEnd (piecesAt s (at + usedBy (drop at s))))) ≡ pick b [] (fragmentsLeft s (at + usedBy (drop at s)))
     parts true = refl
     parts false = refl
+
+module _ (s : List ℕ) (at : ℕ) (ok : stepVerdict (drop at s) ≡ accepted) where
+  -- none is left at the END
+  pub none-left : isEnd (segmentType (drop at s)) ≡ true → fragmentsLeft s at ≡ []
+  none-left e = fragments-here s at ok ∙ go (segmentType (drop at s)) e
+    where
+      go : (k : SegmentType) → isEnd k ≡ true
+          → pick (isOds k) (fragmentAt at (drop at s) ∷ pick (isEnd k) [] (fragmentsLeft s (at + usedBy (drop at s)))) (pick (isEnd k) [] (fragmentsLeft s (at + usedBy (drop at s)))) ≡ []
+      go Pcs z = cc
+      go Wds z = cc
+      go Pds z = cc
+      go Ods z = cc
+      go End z = refl
+      go (Other v) z = cc
+
+  -- before it, the segment's own if it is an ODS, and those after it
+  left-on : isEnd (segmentType (drop at s)) ≡ false
+      → fragmentsLeft s at ≡ pick (isOds (segmentType (drop at s))) (fragmentAt at (drop at s) ∷ fragmentsLeft s (at + usedBy (drop at s))) (fragmentsLeft s (at + usedBy (drop at s)))
+  left-on e =
+      fragments-here s at ok
+      ∙ ap (λ (l : List Fragment). pick (isOds (segmentType (drop at s))) (fragmentAt at (drop at s) ∷ l) l) (pick-second [] (fragmentsLeft s (at + usedBy (drop at s))) e)
+
+  pub left-same : isEnd (segmentType (drop at s)) ≡ false → isOds (segmentType (drop at s)) ≡ false → fragmentsLeft s at ≡ fragmentsLeft s (at + usedBy (drop at s))
+  left-same e k = left-on e ∙ pick-second _ _ k
+
+  pub left-next : isEnd (segmentType (drop at s)) ≡ false → isOds (segmentType (drop at s)) ≡ true
+      → fragmentsLeft s at ≡ fragmentAt at (drop at s) ∷ fragmentsLeft s (at + usedBy (drop at s))
+  left-next e k = left-on e ∙ pick-first _ _ k
+
+  -- the data is the part of the stream at its place
+  module _ (kind : isOds (segmentType (drop at s)) ≡ true) where
+    pub data-length : length (fragmentAt at (drop at s) .bytes) + headSize (flagOf (bodyAt (drop at s))) ≡ sizeOf (drop at s)
+    data-length =
+        omega
+        (arith, length-drop (headSize (flagOf (bodyAt (drop at s)))) (bodyAt (drop at s)), length-take (sizeOf (drop at s)) (drop 13 (drop at s)), length-drop 13 (drop at s), step-within (drop at s) ok, numbers-within (drop at s) ok kind)
+
+    pub data-within : dataPlace (fragmentAt at (drop at s)) + length (fragmentAt at (drop at s) .bytes) ≤ length s
+    data-within = omega (arith, data-length, within-here s at ok)
+
+    pub data-part : take (length (fragmentAt at (drop at s) .bytes)) (drop (dataPlace (fragmentAt at (drop at s))) s) ≡ fragmentAt at (drop at s) .bytes
+    data-part =
+        ap (take m) (sym (drop-drop h (at + 13) s) ∙ ap (drop h) (sym (drop-drop 13 at s)))
+        ∙ sym (drop-of-take h m (drop 13 (drop at s)) (omega (arith, data-length, length-drop 13 (drop at s), step-within (drop at s) ok)))
+        ∙ ap (λ (n : ℕ). drop h (take n (drop 13 (drop at s)))) size
+      where
+        h : ℕ
+        h = headSize (flagOf (bodyAt (drop at s)))
+
+        m : ℕ
+        m = length (fragmentAt at (drop at s) .bytes)
+
+        size : h + m ≡ sizeOf (drop at s)
+        size = omega (arith, data-length)
+
+        drop-of-take : (a b : ℕ) (xs : List ℕ) → a + b ≤ length xs → drop a (take (a + b) xs) ≡ take b (drop a xs)
+        drop-of-take a b xs q = ap (drop a) (take-add a b xs) ∙ drop-at (take a xs) (take b (drop a xs)) a (length-take-le a xs (omega arith))

@@ -1,5 +1,6 @@
-pub mod chain;
+mod chain;
 pub mod grouping;
+mod joining;
 pub mod listing;
 pub mod object;
 pub mod set;
