@@ -9,4 +9,5 @@ pub mod Lists
 pub mod ObjectLaws
 pub mod SetLaws
 pub mod TableLaws
+pub mod ViewLaws
 pub mod WalkLaws

@@ -37,24 +37,31 @@ abbrev pub AllBegin : List ℕ → List Chain → Type 0
 AllBegin s [] = Unit {0}
 AllBegin s (c ∷ cs) = Begins s c × AllBegin s cs
 
+-- where there is a segment, it is accepted, and the others stand behind it
+module _ (s : List ℕ) (x : List ℕ) (xs : List (List ℕ)) (at : ℕ) (e : piecesAt s at ≡ x ∷ xs) where
+  step-of-piece : stepVerdict (drop at s) ≡ accepted
+  step-of-piece = cases (stepVerdict (drop at s)) refl
+    where
+      cases : (v : Verdict) → stepVerdict (drop at s) ≡ v → stepVerdict (drop at s) ≡ accepted
+      cases accepted q = q
+      cases (refused k) q = absurd (omega (arith, sym (ap length e) ∙ ap (λ (r : Reading). length (r .pieces)) (read-stops (drop at s) q)))
+
+  rest-behind : piecesAt s (at + usedBy (drop at s)) ≡ xs
+  rest-behind = let p = pieces-here s at step-of-piece in cc
+
+  pub piece-here : piecesAt s (at + length x) ≡ xs
+  piece-here =
+      let p = pieces-here s at step-of-piece in
+      let q : x ≡ take (usedBy (drop at s)) (drop at s) = cc in
+      ap (λ (n : ℕ). piecesAt s (at + n)) (ap length q ∙ piece-length (drop at s) step-of-piece) ∙ rest-behind
+
 -- so for every chain of a set
 all-from : (s : List ℕ) (xs : List (List ℕ)) (at : ℕ) → piecesAt s at ≡ xs → AllBegin s (chainsOf (fragmentsLeft s at))
 all-from s [] at e = subst (λ (ps : List (List ℕ)). AllBegin s (chainsOf (fragmentsFrom at (throughEnd ps)))) (sym e) tt
-all-from s (x ∷ xs) at e = go (isEnd (segmentType (drop at s))) (isOds (segmentType (drop at s))) refl refl (all-from s xs (at + usedBy (drop at s)) after)
+all-from s (x ∷ xs) at e = go (isEnd (segmentType (drop at s))) (isOds (segmentType (drop at s))) refl refl (all-from s xs (at + usedBy (drop at s)) (rest-behind s x xs at e))
   where
     ok : stepVerdict (drop at s) ≡ accepted
-    ok = cases (stepVerdict (drop at s)) refl
-      where
-        cases : (v : Verdict) → stepVerdict (drop at s) ≡ v → stepVerdict (drop at s) ≡ accepted
-        cases accepted q = q
-        cases (refused k) q =
-            absurd (omega (arith, sym (ap length e) ∙ ap (λ (r : Reading). length (r .pieces)) (read-stops (drop at s) q)))
-
-    after : piecesAt s (at + usedBy (drop at s)) ≡ xs
-    after = let p = pieces-here s at ok in cc
-
-    next : List Fragment
-    next = fragmentsLeft s (at + usedBy (drop at s))
+    ok = step-of-piece s x xs at e
 
     go : (b o : Bool) → isEnd (segmentType (drop at s)) ≡ b → isOds (segmentType (drop at s)) ≡ o
         → AllBegin s (chainsOf (fragmentsLeft s (at + usedBy (drop at s)))) → AllBegin s (chainsOf (fragmentsLeft s at))
@@ -62,9 +69,6 @@ all-from s (x ∷ xs) at e = go (isEnd (segmentType (drop at s))) (isOds (segmen
     go false false p q ih = subst (λ (fs : List Fragment). AllBegin s (chainsOf fs)) (sym (left-same s at ok p q)) ih
     go false true p q ih = subst (λ (fs : List Fragment). AllBegin s (chainsOf fs)) (sym split) (opens (opensChain (fragmentAt at (drop at s))))
       where
-        f : Fragment
-        f = fragmentAt at (drop at s)
-
         split : fragmentsLeft s at ≡ fragmentAt at (drop at s) ∷ fragmentsLeft s (at + usedBy (drop at s))
         split = left-next s at ok p q
 
