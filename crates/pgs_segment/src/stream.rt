@@ -24,8 +24,8 @@ pub enum StreamAnswer {
     Refused(Refusal),
 }
 
-// Reads the stream once without storing.
-fn count_segments(s: &[u8]) -> StreamAnswer
+// Reads the stream once without storing: how many segments it has.
+pub fn count_segments(s: &[u8]) -> StreamAnswer
     ensures { λ r. ⌜ streamOutcome r ≡ outcomeOf (streamVerdict (now (s .entry))) (segmentCount (now (s .entry))) ⌝ }
 {
     let mut at: usize = 0;

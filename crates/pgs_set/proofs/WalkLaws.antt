@@ -1,0 +1,97 @@
+-- Walking over the segments of an accepted stream, one after another. Assumes nothing.
+use mathlib.Core.Path.{_≡_, refl, sym, ap, _∙_}
+use mathlib.Core.Bool.{Bool, true, false}
+use mathlib.Core.List.{List, [], _∷_, _++_}
+use Prim.Native.Nat.{ℕ, zero, suc, _+_, _-_, _≤_, _<_}
+use native.Mathlib.Omega.{arith}
+use lib.ListN.{length, take, drop, length-drop}
+use lib.Seq.{drop-drop, length-take-le, drop-length}
+use Rattle.pgs_base.specs.Bytes.{num}
+use Rattle.pgs_base.specs.Outcome.{Verdict, accepted, refused, andThen, pick}
+use Rattle.pgs_base.proofs.Bytes.{num-take}
+use Rattle.pgs_base.proofs.Outcomes.{first-accepts, second-holds}
+use Rattle.pgs_segment.specs.Header.{headerVerdict, kindOf, ptsOf}
+use Rattle.pgs_segment.specs.Kinds.{typeOf}
+use Rattle.pgs_segment.specs.OneSegment.{segmentType, segmentVerdict, usedBy}
+use Rattle.pgs_segment.specs.Stream.{Reading, stepVerdict, before, readOf, stoppedBy, streamVerdict}
+use Rattle.pgs_segment.proofs.SegmentLaws.{accepted-head, has-header}
+use Rattle.pgs_segment.proofs.StreamLaws.{step-within, read-on, read-stops, stopped-at}
+use Rattle.pgs_segment.specs.declared.header.SegmentType.{SegmentType}
+use Rattle.pgs_set.specs.Sets.{groupVerdict, kindVerdict, stateAfter}
+use Rattle.pgs_set.specs.Walks.{piecesAt, Standing}
+use Rattle.pgs_set.specs.declared.grouping.Grouping.{Grouping}
+
+-- an accepted segment has its head
+pub step-header : (l : List ℕ) → stepVerdict l ≡ accepted → headerVerdict l ≡ accepted
+step-header l e = accepted-head l (first-accepts (segmentVerdict l) _ e)
+
+pub step-length : (l : List ℕ) → stepVerdict l ≡ accepted → 13 ≤ length l
+step-length l e = has-header l (step-header l e)
+
+-- a field of the head depends on the segment's bytes alone
+pub head-field : (w p : ℕ) (l : List ℕ) → stepVerdict l ≡ accepted → p + w ≤ 13 → num w p (take (usedBy l) l) ≡ num w p l
+head-field w p l e h = num-take w p (usedBy l) l (omega arith) (step-within l e)
+
+pub type-of-piece : (l : List ℕ) → stepVerdict l ≡ accepted → segmentType (take (usedBy l) l) ≡ segmentType l
+type-of-piece l e = ap typeOf (head-field 1 10 l e (omega arith))
+
+pub piece-length : (l : List ℕ) → stepVerdict l ≡ accepted → length (take (usedBy l) l) ≡ usedBy l
+piece-length l e = length-take-le (usedBy l) l (step-within l e)
+
+module _ (s : List ℕ) (at : ℕ) where
+  -- a segment stands where an accepted stream is not at its end
+  pub step-here : at < length s → streamVerdict (drop at s) ≡ accepted → stepVerdict (drop at s) ≡ accepted
+  step-here h good = go (stepVerdict (drop at s)) refl
+    where
+      go : (v : Verdict) → stepVerdict (drop at s) ≡ v → stepVerdict (drop at s) ≡ accepted
+      go accepted e = e
+      go (refused k) e =
+          sym (stopped-at (drop at s) (rw length-drop (omega arith)))
+          ∙ ap stoppedBy (sym (ap (λ (x : Reading). x .rest) (read-stops (drop at s) e)))
+          ∙ good
+
+  -- the end has no segment
+  pub pieces-end : length s ≤ at → piecesAt s at ≡ []
+  pieces-end h =
+      ap (λ (l : List ℕ). readOf l .pieces) (none (drop at s) (rw length-drop (omega arith)))
+      ∙ ap (λ (x : Reading). x .pieces) (read-stops [] refl)
+    where
+      none : (l : List ℕ) → length l ≡ 0 → l ≡ []
+      none [] e = refl
+      none (x ∷ l) e = absurd (omega arith)
+
+  module _ (ok : stepVerdict (drop at s) ≡ accepted) where
+    pub pieces-here : piecesAt s at ≡ take (usedBy (drop at s)) (drop at s) ∷ piecesAt s (at + usedBy (drop at s))
+    pieces-here =
+        ap (λ (x : Reading). x .pieces) (read-on (drop at s) ok)
+        ∙ ap (λ (l : List ℕ). take (usedBy (drop at s)) (drop at s) ∷ readOf l .pieces) (drop-drop (usedBy (drop at s)) at s)
+
+    pub within-here : at + usedBy (drop at s) ≤ length s
+    within-here = omega (arith, step-within (drop at s) ok, length-drop at s)
+
+    pub good-after : streamVerdict (drop at s) ≡ accepted → streamVerdict (drop (at + usedBy (drop at s)) s) ≡ accepted
+    good-after good =
+        ap (λ (l : List ℕ). streamVerdict l) (sym (drop-drop (usedBy (drop at s)) at s))
+        ∙ sym (ap (λ (x : Reading). stoppedBy (x .rest)) (read-on (drop at s) ok))
+        ∙ good
+
+    -- the verdict of the next segment, and of those after it
+    pub group-here : (g : Grouping)
+        → groupVerdict g (piecesAt s at)
+        ≡ andThen (kindVerdict g (segmentType (drop at s))) (groupVerdict (stateAfter g (segmentType (drop at s))) (piecesAt s (at + usedBy (drop at s))))
+    group-here g =
+        ap (groupVerdict g) pieces-here
+        ∙ ap (λ (t : SegmentType). andThen (kindVerdict g t) (groupVerdict (stateAfter g t) (piecesAt s (at + usedBy (drop at s)))))
+        (type-of-piece (drop at s) ok)
+
+    -- the next segment is passed
+    pub stands-on : {g : Grouping} → Standing g s at → Standing (stateAfter g (segmentType (drop at s))) s (at + usedBy (drop at s))
+    stands-on {g} st =
+        record {
+          inside = within-here;
+          good = good-after (st .good);
+          grouped = second-holds (kindVerdict g (segmentType (drop at s))) _ (sym (group-here g) ∙ st .grouped);
+        }
+
+    pub kind-accepted : {g : Grouping} → Standing g s at → kindVerdict g (segmentType (drop at s)) ≡ accepted
+    kind-accepted {g} st = first-accepts (kindVerdict g (segmentType (drop at s))) _ (sym (group-here g) ∙ st .grouped)

@@ -1,0 +1,76 @@
+-- `reassemble_objects` groups the stream, finds the set, and reassembles its objects.
+-- Assumes nothing.
+use borrow.Author.Needs.{needs}
+use Rattle.pgs_base.proofs.Outcomes.{gave, gave-value, turned-down}
+use Rattle.pgs_set.proofs.ObjectLaws.{reassembles-refusal, stands-here, stands-open, set-objects, set-verdict, no-sets, no-set}
+use Rattle.pgs_set.specs.Sets.{setsVerdict, setCount, setsOutcome}
+use denote.Ref.{now}
+use mathlib.Core.Path.{sym, ap, _∙_}
+use native.Mathlib.Omega.{arith}
+use Rattle.pgs_set.proofs.object.reassemble_objects.Statement.{statement}
+use Rattle.pgs_set.proofs.object.reassemble_objects.Tie as tie
+
+group-display-sets-requires : tie.Need-group-display-sets-requires
+group-display-sets-requires c κs = search needs
+
+enum-known-why : tie.Need-enum-known-why
+enum-known-why c = search needs
+
+enum-known-n : tie.Need-enum-known-n
+enum-known-n c = search needs
+
+returns : tie.Need-returns
+returns c = let s = now (c .before .before .before .before .before .before .before .args .s) in let e = sym (ap setsOutcome (c .before .before .n .given .1)) ∙ c .before .before .before .before .group-display-sets .ensures in let all = gave-value (setsVerdict s) (setCount s) e in reassembles-refusal (no-set (c .before .before .before .before .before .before .before .args .set) s (gave (setsVerdict s) (setCount s) e) (omega (arith, all, c .if1 .taken)))
+
+set-place-requires : tie.Need-set-place-requires
+set-place-requires c κs = let s = now (c .before .before .before .before .before .before .before .args .s) in let e = sym (ap setsOutcome (c .before .before .n .given .1)) ∙ c .before .before .before .before .group-display-sets .ensures in let all = gave-value (setsVerdict s) (setCount s) e in ((gave (setsVerdict s) (setCount s) e), omega (arith, all, c .if1 .left))
+
+header-at-requires : tie.Need-header-at-requires
+header-at-requires c κs = stands-here (now (c .before .before .before .before .before .before .before .before .args .s)) (c .before .before .before .before .before .before .before .before .args .set) (c .set-place .ensures)
+
+cast-reassemble : tie.Need-cast-reassemble
+cast-reassemble c = search needs
+
+add-reassemble : tie.Need-add-reassemble
+add-reassemble c = search needs
+
+add-reassemble-2 : tie.Need-add-reassemble-2
+add-reassemble-2 c = search needs
+
+slice-aggregate-reassemble : tie.Need-slice-aggregate-reassemble
+slice-aggregate-reassemble c = search needs
+
+reassemble-requires : tie.Need-reassemble-requires
+reassemble-requires c κs = stands-open (now (c .before .before .before .before .before .before .before .before .before .before .before .before .before .args .s)) (c .before .before .before .before .before .before .before .before .before .before .before .before .before .args .set) (c .before .before .before .before .before .set-place .ensures) (c .before .before .before .before .header-at .ensures)
+
+returns-2 : tie.Need-returns-2
+returns-2 c = let s = now (c .before .before .before .before .before .before .args .s) in reassembles-refusal (no-sets (c .before .before .before .before .before .before .args .set) s (turned-down (setsVerdict s) (setCount s) (sym (ap setsOutcome (c .before .why .given .1)) ∙ c .before .before .before .group-display-sets .ensures)))
+
+same-length : tie.Need-same-length
+same-length c = search needs
+
+same-length-2 : tie.Need-same-length-2
+same-length-2 c = search needs
+
+returns-3 : tie.Need-returns-3
+returns-3 c = let s = now (c .before .before .before .before .before .before .before .before .before .before .before .before .before .before .before .before .before .before .args .s) in let e = sym (ap setsOutcome (c .before .before .before .before .before .before .before .before .before .before .before .before .before .n .given .1)) ∙ c .before .before .before .before .before .before .before .before .before .before .before .before .before .before .before .group-display-sets .ensures in let all = gave-value (setsVerdict s) (setCount s) e in rw (set-verdict s (c .before .before .before .before .before .before .before .before .before .before .before .before .before .before .before .before .before .before .args .set) (c .before .before .before .before .before .before .before .before .before .before .set-place .ensures) (c .before .before .before .before .before .before .before .before .before .header-at .ensures) (gave (setsVerdict s) (setCount s) e) (omega (arith, all, c .before .before .before .before .before .before .before .before .before .before .before .if1 .left)), set-objects s (c .before .before .before .before .before .before .before .before .before .before .before .before .before .before .before .before .before .before .args .set) (c .before .before .before .before .before .before .before .before .before .before .set-place .ensures) (c .before .before .before .before .before .before .before .before .before .header-at .ensures)) (c .before .before .before .before .reassemble .ensures)
+
+pub reassemble-objects-spec : {M : Type 1} → statement M
+reassemble-objects-spec =
+    tie.close
+    (tie.spec
+    group-display-sets-requires
+    enum-known-why
+    enum-known-n
+    returns
+    set-place-requires
+    header-at-requires
+    cast-reassemble
+    add-reassemble
+    add-reassemble-2
+    slice-aggregate-reassemble
+    reassemble-requires
+    returns-2
+    same-length
+    same-length-2
+    returns-3)

@@ -1,0 +1,5 @@
+pub mod Objects
+pub mod Reassembly
+pub mod Sets
+pub mod Tables
+pub mod Walks

@@ -1,0 +1,53 @@
+-- Where a walk over the segments of a stream stands. Private contracts cite these; those of public functions cite `Sets` and
+-- `Objects`.
+use Prim.Native.Nat.{ℕ, _+_, _≤_, _<_}
+use mathlib.Core.Path.{_≡_}
+use mathlib.Core.Bool.{Bool}
+use mathlib.Core.List.{List, []}
+use lib.ListN.{length, drop, getD}
+use Rattle.pgs_base.specs.Outcome.{accepted}
+use Rattle.pgs_segment.specs.Stream.{readOf, streamVerdict}
+use Rattle.pgs_set.specs.Objects.{noSet, setNumber, Fragment, fragmentsFrom}
+use Rattle.pgs_set.specs.Sets.{DisplaySet, groupVerdict, setsFrom, throughEnd, bytesIn}
+use Rattle.pgs_set.specs.declared.grouping.Grouping.{Grouping}
+use Rattle.pgs_set.specs.declared.grouping.Grouping.the-variants.{Outside, Inside}
+
+-- the segments from a place on
+abbrev pub piecesAt : List ℕ → ℕ → List (List ℕ)
+piecesAt s at = readOf (drop at s) .pieces
+
+-- the segments from this place on are accepted, and group in this state
+pub record Standing (g : Grouping) (s : List ℕ) (at : ℕ) : Type 0 where
+  pub inside : at ≤ length s
+  pub good : streamVerdict (drop at s) ≡ accepted
+  pub grouped : groupVerdict g (piecesAt s at) ≡ accepted
+
+-- a set is open at this place
+pub record InSet (s : List ℕ) (at : ℕ) : Type 0 where
+  pub windows : Bool
+  pub standing : Standing (Inside windows) s at
+
+-- the place just after the END of the set that is open at a place
+abbrev pub endFrom : List ℕ → ℕ → ℕ
+endFrom s at = at + bytesIn (throughEnd (piecesAt s at))
+
+-- the set whose PCS stands at a place
+abbrev pub setAt : List ℕ → ℕ → DisplaySet
+setAt s at = getD (setsFrom at (piecesAt s at)) 0 noSet
+
+-- r is the place just after the END of the set that is open at a place, and the sets from there on are those from r on
+pub record Ends (s : List ℕ) (at r : ℕ) : Type 0 where
+  pub place : r ≡ endFrom s at
+  pub sets : setsFrom r (piecesAt s r) ≡ setsFrom at (piecesAt s at)
+  pub after : Standing Outside s r
+  pub on : at < r
+
+-- the PCS of set number k stands at r
+pub record SetStands (s : List ℕ) (k r : ℕ) : Type 0 where
+  pub standing : Standing Outside s r
+  pub more : r < length s
+  pub found : setAt s r ≡ setNumber k s
+
+-- the fragments from a place on in the set that is open there
+abbrev pub fragmentsLeft : List ℕ → ℕ → List Fragment
+fragmentsLeft s at = fragmentsFrom at (throughEnd (piecesAt s at))

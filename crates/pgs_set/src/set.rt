@@ -1,0 +1,187 @@
+// The display sets of a stream (01, module 6).
+use crate::grouping::GroupStep;
+use crate::grouping::Grouping;
+use crate::grouping::group_segment;
+use pgs_base::refusal::Refusal;
+use pgs_segment::header::HeaderAnswer;
+use pgs_segment::header::SegmentHeader;
+use pgs_segment::header::SegmentType;
+use pgs_segment::stream::StreamAnswer;
+use pgs_segment::stream::count_segments;
+ghost use mathlib.Core.Path.{_≡_};
+ghost use Prim.Native.Nat.{_≤_, _<_};
+ghost use mathlib.Core.List.{[]};
+ghost use lib.ListN.{length, drop};
+ghost use Rattle.pgs_base.specs.Outcome.{accepted, outcomeOf, laid, Delivered};
+ghost use Rattle.pgs_segment.specs.Header.{headerFields};
+ghost use Rattle.pgs_segment.specs.Stream.{readOf, stepVerdict, streamVerdict};
+ghost use Rattle.pgs_set.specs.Sets.{
+  groupVerdict,
+  isEnd,
+  opens,
+  setCount,
+  setRows,
+  setsVerdict,
+  setsOutcome,
+};
+ghost use Rattle.pgs_set.specs.Walks.{InSet, Ends, SetStands};
+
+// How many sets a stream has, or why it is refused.
+pub enum SetsAnswer {
+    Sets(usize),
+    Refused(Refusal),
+}
+
+// The head of the segment at a place where one is known to stand.
+pub(crate) fn header_at(s: &[u8], at: usize) -> SegmentHeader
+    requires { ⌜ stepVerdict (drop at (now s)) ≡ accepted ⌝ }
+    ensures { λ r. ⌜ r ≡ headerFields (drop at (now (s .entry))) ⌝ }
+{
+    match SegmentHeader::parse(&s[at..]) {
+        HeaderAnswer::Header(header) => header,
+        // cannot be: the segment was accepted
+        HeaderAnswer::Refused(_) => SegmentHeader {
+            pts: 0,
+            dts: 0,
+            segment_type: 0,
+            segment_size: 0,
+        },
+    }
+}
+
+// 1 where a segment of this kind opens a set, else 0.
+fn opened_by(kind: SegmentType) -> usize
+    ensures { λ r. ⌜ r ≡ opens kind ⌝ }
+{
+    match kind {
+        SegmentType::Pcs => 1,
+        SegmentType::Wds => 0,
+        SegmentType::Pds => 0,
+        SegmentType::Ods => 0,
+        SegmentType::End => 0,
+        SegmentType::Other(_) => 0,
+    }
+}
+
+// How the grouping of a stream ends: 15 where a set is open.
+fn grouped(state: Grouping, n: usize) -> SetsAnswer
+    ensures { λ r. ⌜ setsOutcome r ≡ outcomeOf (groupVerdict state []) n ⌝ }
+{
+    match state {
+        Grouping::Outside => SetsAnswer::Sets(n),
+        Grouping::Inside(_) => SetsAnswer::Refused(Refusal::UnterminatedSet),
+    }
+}
+
+// Groups the segments of a stream that is known to be accepted, without storing.
+fn count_sets(s: &[u8]) -> SetsAnswer
+    requires { ⌜ streamVerdict (now s) ≡ accepted ⌝ }
+    ensures { λ r. ⌜ setsOutcome r ≡ outcomeOf (groupVerdict Grouping.Outside (readOf (now (s .entry)) .pieces)) (setCount (now (s .entry))) ⌝ }
+{
+    let mut state = Grouping::Outside;
+    let mut at: usize = 0;
+    let mut n: usize = 0;
+    while at < s.len() {
+        let header = header_at(s, at);
+        let kind = SegmentType::from_raw(header.segment_type);
+        match group_segment(state, kind) {
+            GroupStep::Refused(why) => {
+                return SetsAnswer::Refused(why);
+            }
+            GroupStep::On(next) => {
+                state = next;
+                at += 13 + header.segment_size as usize;
+                n += opened_by(kind);
+            }
+        }
+    }
+    grouped(state, n)
+}
+
+pub(crate) fn is_end(kind: SegmentType) -> bool
+    ensures { λ r. ⌜ r ≡ isEnd kind ⌝ }
+{
+    match kind {
+        SegmentType::End => true,
+        SegmentType::Pcs => false,
+        SegmentType::Wds => false,
+        SegmentType::Pds => false,
+        SegmentType::Ods => false,
+        SegmentType::Other(_) => false,
+    }
+}
+
+// The place just after the END of the set that is open at `from`.
+fn set_end(s: &[u8], from: usize) -> usize
+    requires { ⌜ InSet (now s) from ⌝ }
+    ensures { λ r. ⌜ Ends (now (s .entry)) from r ⌝ }
+{
+    let mut at = from;
+    loop {
+        let header = header_at(s, at);
+        at += 13 + header.segment_size as usize;
+        if is_end(SegmentType::from_raw(header.segment_type)) {
+            return at;
+        }
+    }
+}
+
+// The place of the PCS of set number k, which is known to exist.
+pub(crate) fn set_place(s: &[u8], k: usize) -> usize
+    requires { ⌜ setsVerdict (now s) ≡ accepted ⌝ }
+    requires { ⌜ k < setCount (now s) ⌝ }
+    ensures { λ r. ⌜ SetStands (now (s .entry)) k r ⌝ }
+{
+    let mut i: usize = 0;
+    let mut at: usize = 0;
+    while i < k {
+        let header = header_at(s, at);
+        at = set_end(s, at + (13 + header.segment_size as usize));
+        i += 1;
+    }
+    at
+}
+
+// Stores the records of a stream whose sets are known to be accepted.
+fn fill_sets(s: &[u8], n: usize, sets: &mut [[u64; 3]])
+    requires { ⌜ setsVerdict (now s) ≡ accepted ⌝ }
+    requires { ⌜ n ≡ setCount (now s) ⌝ }
+    requires { ⌜ n ≤ length (now sets) ⌝ }
+    ensures { λ _. ⌜ now (sets .exit) ≡ laid accepted (setRows (now (s .entry))) (now (sets .entry)) ⌝ }
+{
+    let mut i: usize = 0;
+    let mut at: usize = 0;
+    while i < n {
+        let header = header_at(s, at);
+        let end = set_end(s, at + (13 + header.segment_size as usize));
+        sets[i] = [at as u64, end as u64, header.pts as u64];
+        i += 1;
+        at = end;
+    }
+}
+
+// How many sets a stream has: the whole stream is read first, then its segments are grouped.
+pub fn group_display_sets(s: &[u8]) -> SetsAnswer
+    ensures { λ r. ⌜ setsOutcome r ≡ outcomeOf (setsVerdict (now (s .entry))) (setCount (now (s .entry))) ⌝ }
+{
+    match count_segments(s) {
+        StreamAnswer::Refused(why) => SetsAnswer::Refused(why),
+        StreamAnswer::Segments(_) => count_sets(s),
+    }
+}
+
+// Reads a stream; a record for each display set fills the caller's list, from the front.
+pub fn parse_display_sets(s: &[u8], sets: &mut [[u64; 3]]) -> SetsAnswer
+    ensures { λ r. ⌜ Delivered (setsVerdict (now (s .entry))) (setCount (now (s .entry))) (setRows (now (s .entry))) (now (sets .entry)) (now (sets .exit)) (setsOutcome r) ⌝ }
+{
+    match group_display_sets(s) {
+        SetsAnswer::Refused(why) => SetsAnswer::Refused(why),
+        SetsAnswer::Sets(n) => {
+            if sets.len() < n {
+                return SetsAnswer::Refused(Refusal::BufferTooSmall);
+            }
+            fill_sets(s, n, sets);
+            SetsAnswer::Sets(n)
+        }
+    }
+}
