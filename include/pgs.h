@@ -2,14 +2,16 @@
  * PGS (Blu-ray bitmap subtitle) streams: the C interface of the proved library, for C and C++.
  * Link target/staticlib/libpgs_c.a, which `rt staticlib pgs_c` writes (x86-64 Linux).
  *
- * Every function answers PGS_ACCEPTED (0), or the number of the refusal; docs/REFUSALS.md explains each.
- * A refused call changes nothing: the records, the lists and the count are as they were before it. An accepted
- * call writes the records that it answers, from the front of the list, and leaves the rest of the list as it was.
+ * Every function answers PGS_ACCEPTED (0), or the number of the refusal; docs/REFUSALS.md explains each. Only
+ * pgs_ycbcr709_to_rgb, which refuses nothing, answers a colour. A refused call changes nothing: the records, the
+ * lists, the buffers and the count are as they were before it. An accepted call writes the records or bytes that it
+ * answers, from the front of the list or buffer, and leaves the rest as it was.
  *
  * A list is an array of records. A record is an array of numbers, its cells named by the constants below.
- * The length of a list counts records, not cells and not bytes; a list may be longer than is needed, and a list
- * that is exactly long enough is accepted. A list too short is PGS_BUFFER_TOO_SMALL, which is given only where no
- * other refusal is. The input is only read. Nothing is allocated and nothing is kept after the call.
+ * The length of a list counts records, not cells and not bytes; that of a buffer counts bytes. A list or buffer may
+ * be longer than is needed, and one that is exactly long enough is accepted. One too short is PGS_BUFFER_TOO_SMALL,
+ * which is given only where no other refusal is. The input is only read. Nothing is allocated and nothing is kept
+ * after the call.
  *
  * What the caller owes, as for any C function: every pointer is valid, aligned for its type and not NULL, also
  * where its length is 0; lengths are true; what is lent for writing overlaps neither the input nor other lent
@@ -38,6 +40,15 @@ enum {
     PGS_PARTIAL_PALETTE_ENTRY = 5,
     PGS_NON_EMPTY_END = 6,
     PGS_ZERO_LENGTH_SEGMENT = 7, /* never given: a segment that was read used 13 bytes at least */
+    PGS_RUN_PAST_WIDTH = 24,
+    PGS_TRUNCATED_ESCAPE = 25,
+    PGS_TRUNCATED_LONG_ZERO_RUN = 26,
+    PGS_TRUNCATED_SHORT_COLOR_RUN = 27,
+    PGS_TRUNCATED_LONG_COLOR_RUN = 28,
+    PGS_SHORT_LINE = 29,
+    PGS_TOO_MANY_LINES = 30,
+    PGS_PARTIAL_LAST_LINE = 31,
+    PGS_LINE_COUNT_MISMATCH = 32,
     PGS_BUFFER_TOO_SMALL = 34
 };
 
@@ -178,6 +189,51 @@ uint8_t pgs_parse_pds(const uint8_t *body, size_t body_length,
  */
 uint8_t pgs_parse_ods(const uint8_t *body, size_t body_length,
                       pgs_ods *ods);
+
+/*
+ * Decodes the run-length code of an object into palette indices: width times height bytes, row by row, the top left
+ * pixel first. data is the object's whole data, joined if it came in several fragments. Every line must have exactly
+ * width pixels, and there must be exactly height lines; the code that ends the last line may be missing, unless the
+ * width is 0. The whole data is read, and tested before a pixel is stored.
+ * Refusals: 24 to 30, of the first code that is refused; at the end of the data 31, then 32; then 34.
+ */
+uint8_t pgs_decode_rle(const uint8_t *data, size_t data_length,
+                       uint16_t width, uint16_t height,
+                       uint8_t *pixels, size_t pixels_length);
+
+/*
+ * The colour of Y, Cb and Cr by ITU-R BT.709, from the ranges of video (Y 16 to 235, Cb and Cr 16 to 240) to 0 to
+ * 255: R times 65,536, plus G times 256, plus B. Values outside of the ranges of video are converted too, and the
+ * result is clamped. Mind the order: a palette entry has Cr before Cb.
+ */
+uint32_t pgs_ycbcr709_to_rgb(uint8_t y, uint8_t cb, uint8_t cr);
+
+/*
+ * A palette table: R, G, B and alpha of each index from 0 to 255, so that the colour of index i starts at byte
+ * PGS_COLOR_SIZE * i. Alpha is not multiplied into the colour. A table is cleared once, and then the segments of its
+ * display set are laid over it in order. Where a table is longer than PGS_PALETTE_SIZE, its rest is never touched.
+ */
+enum {
+    PGS_COLOR_SIZE = 4,
+    PGS_PALETTE_SIZE = 1024
+};
+
+/*
+ * Clears a palette table: every index is 0, 0, 0, 0, transparent.
+ * Refusals: 34.
+ */
+uint8_t pgs_clear_palette(uint8_t *table, size_t table_length);
+
+/*
+ * Lays the entries of one PDS over a palette table, in order: a later entry of the same index replaces an earlier
+ * one, and an index without an entry stays as it was. An entry with alpha 0 keeps its colour. Only the palette that
+ * the composition names applies: where palette_id (PGS_PDS_ID) is not named (PGS_PCS_PALETTE_ID), the table stays as
+ * it was, and the call is accepted. (Strict C before C23 wants a list that is not const cast to const pgs_entry *.)
+ * Refusals: 34, also where the palette does not apply.
+ */
+uint8_t pgs_apply_palette(const pgs_entry *entries, size_t entries_length,
+                          uint8_t palette_id, uint8_t named,
+                          uint8_t *table, size_t table_length);
 
 #ifdef __cplusplus
 }

@@ -18,11 +18,44 @@ static const uint8_t STREAM[] = {
     7, 0x80, 4, 0x38, 0x10, 0, 9, 0x80, 0, 5, 1, 0, 7, 3, 0x40, 0, 11, 0, 12, 0, 1, 0, 2, 0, 3, 0, 4,
     'P', 'G', 0, 1, 0x5F, 0x91, 0, 0, 0, 2, 0x17, 0, 10, 1, 3, 0, 5, 0, 6, 0, 7, 0, 8,
     'P', 'G', 0, 1, 0x5F, 0x92, 0, 0, 0, 3, 0x14, 0, 7, 5, 2, 1, 0x51, 0xF0, 0x5A, 0xFF,
-    'P', 'G', 0, 1, 0x5F, 0x93, 0, 0, 0, 4, 0x15, 0, 12, 0, 7, 1, 0xC0, 0, 0, 5, 0, 2, 0, 3, 1,
+    'P', 'G', 0, 1, 0x5F, 0x93, 0, 0, 0, 4, 0x15, 0, 22, 0, 7, 1, 0xC0, 0, 0, 15, 0, 2, 0, 3,
+    1, 1, 0, 0, 0, 0x82, 1, 0, 0, 0, 2,
     'P', 'G', 0, 1, 0x5F, 0x94, 0, 0, 0, 5, 0x80, 0, 0,
 };
 
 static const uint8_t *body(const pgs_segment s) { return STREAM + s[PGS_SEGMENT_PLACE] + 13; }
+
+/* The object's pixels, and the colours of the palette that has one entry. */
+static void pixels_and_colors(const uint8_t *ods_body, const pgs_ods ods, const pgs_pds pds, const pgs_entry *entry) {
+    const uint8_t *data = ods_body + ods[PGS_ODS_DATA_PLACE];
+    size_t length = (size_t)ods[PGS_ODS_DATA_LENGTH];
+    uint16_t width = (uint16_t)ods[PGS_ODS_WIDTH], height = (uint16_t)ods[PGS_ODS_HEIGHT];
+    uint8_t pixels[7] = {9, 9, 9, 9, 9, 9, 9};
+    uint8_t table[PGS_PALETTE_SIZE];
+    const uint8_t *color = table + PGS_COLOR_SIZE * 1;
+
+    expect("a cut bitmap", pgs_decode_rle(data, length - 1, width, height, pixels, 7), PGS_TRUNCATED_ESCAPE);
+    expect("a buffer too short", pgs_decode_rle(data, length, width, height, pixels, 5), PGS_BUFFER_TOO_SMALL);
+    expect("a pixel after a refusal", pixels[0], 9);
+    expect("the bitmap", pgs_decode_rle(data, length, width, height, pixels, 7), PGS_ACCEPTED);
+    expect("first pixel", pixels[0], 1);
+    expect("fourth pixel", pixels[3], 1);
+    expect("last pixel", pixels[5], 0);
+    expect("the byte after the bitmap", pixels[6], 9);
+
+    expect("red", pgs_ycbcr709_to_rgb((*entry)[PGS_ENTRY_Y], (*entry)[PGS_ENTRY_CB], (*entry)[PGS_ENTRY_CR]), 0xFF1800);
+
+    expect("a table too short", pgs_clear_palette(table, PGS_PALETTE_SIZE - 1), PGS_BUFFER_TOO_SMALL);
+    expect("the table", pgs_clear_palette(table, PGS_PALETTE_SIZE), PGS_ACCEPTED);
+    expect("another palette", pgs_apply_palette(entry, 1, pds[PGS_PDS_ID], 6, table, sizeof table), PGS_ACCEPTED);
+    expect("alpha before the palette", color[3], 0);
+    expect("the palette", pgs_apply_palette(entry, 1, pds[PGS_PDS_ID], 5, table, sizeof table), PGS_ACCEPTED);
+    expect("R", color[0], 0xFF);
+    expect("G", color[1], 0x18);
+    expect("B", color[2], 0x00);
+    expect("alpha", color[3], 0xFF);
+    expect("alpha without an entry", table[3], 0);
+}
 
 int main(void) {
     pgs_segment segments[5];
@@ -59,7 +92,9 @@ int main(void) {
     expect("ODS", pgs_parse_ods(body(segments[3]), (size_t)segments[3][PGS_SEGMENT_BODY_LENGTH], &ods), 0);
     expect("object height", ods[PGS_ODS_HEIGHT], 3);
     expect("data place", ods[PGS_ODS_DATA_PLACE], 11);
-    expect("data length", ods[PGS_ODS_DATA_LENGTH], 1);
+    expect("data length", ods[PGS_ODS_DATA_LENGTH], 11);
+
+    pixels_and_colors(body(segments[3]), ods, pds, (const pgs_entry *)&entry);
 
     if (faults == 0) {
         puts("header: every function of include/pgs.h links and answers");

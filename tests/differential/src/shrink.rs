@@ -1,5 +1,6 @@
 //! Makes a failing input smaller while it still fails.
 
+use crate::bitmap::codes::line_starts;
 use crate::generate::starts;
 
 /// How many bytes of smaller inputs are tried at most.
@@ -16,6 +17,8 @@ pub enum Form {
     Bitmap,
     /// Three bytes, as they are.
     Color,
+    /// A byte that stays, then bytes without heads.
+    Palettes,
 }
 
 impl Form {
@@ -25,6 +28,7 @@ impl Form {
             Form::Stream | Form::Bytes => 0,
             Form::Bitmap => 4,
             Form::Color => 3,
+            Form::Palettes => 1,
         }
     }
 }
@@ -39,6 +43,7 @@ pub fn smallest(form: Form, input: &[u8], fails: impl FnMut(&[u8]) -> bool) -> V
             search.cut_bodies();
         }
         if form == Form::Bitmap {
+            search.cut_lines();
             search.lower_dimensions();
         }
         search.cut_bytes(form.fixed());
@@ -119,6 +124,24 @@ impl<F: FnMut(&[u8]) -> bool> Search<F> {
     /// The body size in the head at a place.
     fn announced(&self, at: usize) -> usize {
         u16::from_be_bytes([self.best[at + 11], self.best[at + 12]]) as usize
+    }
+
+    /// Leaves out runs of whole lines of a bitmap, and lowers the height by their number.
+    fn cut_lines(&mut self) {
+        for run in parts(line_starts(&self.best[4..]).len()) {
+            let mut first = 0;
+            while self.left > 0 {
+                let starts = line_starts(&self.best[4..]);
+                let Some(&from) = starts.get(first) else { break };
+                let to = starts.get(first + run).copied().unwrap_or(self.best.len() - 4);
+                let height = u16::from_be_bytes([self.best[2], self.best[3]]);
+                let lower = height.saturating_sub(run.min(starts.len() - first) as u16).to_be_bytes();
+                let smaller = [&self.best[..2], &lower, &self.best[4..4 + from], &self.best[4 + to..]];
+                if !self.attempt(smaller.concat()) {
+                    first += run;
+                }
+            }
+        }
     }
 
     /// Lowers the width and the height.

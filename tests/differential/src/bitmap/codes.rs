@@ -41,6 +41,25 @@ pub fn bytes_of(codes: &[Code]) -> Vec<u8> {
     data
 }
 
+/// Where each line of a bitmap's data starts: after each end of line but the one at the end.
+pub fn line_starts(data: &[u8]) -> Vec<usize> {
+    let mut starts = vec![0];
+    let mut at = 0;
+    while at + 2 < data.len() {
+        let ended = data[at..].starts_with(&[0, 0]);
+        at += match (data[at], data[at + 1]) {
+            (0, 0x40..=0xBF) => 3,
+            (0, 0xC0..) => 4,
+            (0, _) => 2,
+            _ => 1,
+        };
+        if ended {
+            starts.push(at);
+        }
+    }
+    starts
+}
+
 /// Every kind of run of one length and colour. A pixel is a run of 1; a short run of zeros has 1 at least.
 pub fn runs(length: u16, color: u8) -> Vec<Code> {
     let mut runs = vec![Code::LongZeros(length), Code::LongRun(length, color)];

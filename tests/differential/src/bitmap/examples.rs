@@ -10,8 +10,11 @@ pub const EXAMPLES: [Example; 4] = [
     (30, "past the last line", past_the_last_line),
 ];
 
-/// Bitmaps of document 01: width, height, data, and the pixels or the number.
-pub const SAMPLES: [(u16, u16, &str, Result<&[u8], u8>); 12] = [
+/// Width, height, data, and the pixels or the number.
+pub type Sample = (u16, u16, &'static str, Result<&'static [u8], u8>);
+
+/// The bitmaps of document 01.
+pub const SAMPLES: [Sample; 12] = [
     (3, 1, "01 02 03", Ok(&[1, 2, 3])),
     (3, 1, "01 02 03 00 00", Ok(&[1, 2, 3])),
     (3, 1, "00 C0 03 09", Ok(&[9, 9, 9])),

@@ -116,6 +116,7 @@ fn little_data(run: &mut Run) {
     for (width, height) in sides.iter().flat_map(|w| sides.iter().map(move |h| (*w, *h))) {
         let reserved = Vec::<u8>::new().try_reserve_exact(width as usize * height as usize);
         if reserved.is_err() {
+            print!("no memory for {width} by {height}, left out; ");
             continue;
         }
         for data in [&[][..], &[0], &[5], &[0, 0], &[0, 0x40, 0], &[0, 0x80, 7], &[0, 0xFF, 0xFF, 9]] {

@@ -1,6 +1,6 @@
 //! The layer of bitmaps: the run-length code.
 
-mod codes;
+pub mod codes;
 pub mod examples;
 mod inputs;
 

@@ -28,7 +28,7 @@ fn every_color(run: &mut Run) {
 }
 
 fn palettes(run: &mut Run, input: &[u8]) {
-    run.compare(Form::Bytes, "palettes", input, check_palettes);
+    run.compare(Form::Palettes, "palettes", input, check_palettes);
 }
 
 /// A segment as it stands in an input.

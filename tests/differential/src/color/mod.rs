@@ -122,17 +122,24 @@ fn clear_call(room: usize, then: Then, lent: &mut LentBytes, tally: &mut Tally) 
     bytes_call(tally, "pgs_clear_palette", then, room, lent, library::clear_palette)
 }
 
+/// The library's call. Another entry stands after the last: reading it would show.
+fn apply((id, entries): &Segment, named: u8, table: *mut u8, len: usize) -> u8 {
+    let mut longer = entries.clone();
+    longer.push([id ^ 0x55; 5]);
+    let answer = library::apply_palette(&longer[..entries.len()], *id, named, table, len);
+    assert!(longer.starts_with(entries), "the call changed its entries");
+    answer
+}
+
 fn apply_call(
-    (id, entries): &Segment,
+    segment: &Segment,
     named: u8,
     room: usize,
     then: Then,
     lent: &mut LentBytes,
     tally: &mut Tally,
 ) -> Result<(), String> {
-    bytes_call(tally, "pgs_apply_palette", then, room, lent, |table, len| {
-        library::apply_palette(entries, *id, named, table, len)
-    })
+    bytes_call(tally, "pgs_apply_palette", then, room, lent, |table, len| apply(segment, named, table, len))
 }
 
 /// Clears a table and lays the segments over it.
@@ -148,10 +155,8 @@ pub fn cleared_and_applied(
         return clear_call(room, (0, wanted), lent, tally);
     }
     bytes_call(tally, "pgs_apply_palette", (0, wanted), room, lent, |table, len| {
-        let apply = |(id, entries): &Segment| library::apply_palette(entries, *id, named, table, len);
-        let refused = |answer: &u8| *answer != 0;
-        let mut answers =
-            std::iter::once(library::clear_palette(table, len)).chain(segments.iter().map(apply));
-        answers.find(refused).unwrap_or(0)
+        let cleared = library::clear_palette(table, len);
+        let applied = segments.iter().map(|segment| apply(segment, named, table, len));
+        applied.fold(cleared, |refused, answer| if refused == 0 { answer } else { refused })
     })
 }
