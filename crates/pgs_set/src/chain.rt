@@ -2,9 +2,9 @@
 use crate::set::header_at;
 use crate::set::is_end;
 use pgs_base::refusal::Refusal;
-use pgs_segment::header::SegmentType;
+use pgs_base::segment_type::SegmentType;
 use pgs_segment::ods::Dimensions;
-use pgs_segment::ods::FragmentFlag;
+use pgs_base::fragment_flag::FragmentFlag;
 use pgs_segment::ods::Ods;
 use pgs_segment::ods::OdsAnswer;
 use pgs_segment::segment::BodyList;

@@ -5,7 +5,7 @@ use crate::grouping::group_segment;
 use pgs_base::refusal::Refusal;
 use pgs_segment::header::HeaderAnswer;
 use pgs_segment::header::SegmentHeader;
-use pgs_segment::header::SegmentType;
+use pgs_base::segment_type::SegmentType;
 use pgs_segment::stream::StreamAnswer;
 use pgs_segment::stream::count_segments;
 ghost use mathlib.Core.Path.{_≡_};
