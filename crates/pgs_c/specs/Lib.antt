@@ -1,3 +1,4 @@
 pub mod Calls
 pub mod Pixels
 pub mod Segments
+pub mod Sets

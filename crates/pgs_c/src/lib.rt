@@ -4,3 +4,4 @@
 pub mod bitmap;
 pub mod color;
 pub mod segments;
+pub mod sets;

@@ -1,10 +1,10 @@
 // The fragments of a display set, and the chains that they make up (01, module 7).
 use crate::set::header_at;
 use crate::set::is_end;
+use pgs_base::fragment_flag::FragmentFlag;
 use pgs_base::refusal::Refusal;
 use pgs_base::segment_type::SegmentType;
 use pgs_segment::ods::Dimensions;
-use pgs_base::fragment_flag::FragmentFlag;
 use pgs_segment::ods::Ods;
 use pgs_segment::ods::OdsAnswer;
 use pgs_segment::segment::BodyList;
