@@ -40,6 +40,22 @@ enum {
     PGS_PARTIAL_PALETTE_ENTRY = 5,
     PGS_NON_EMPTY_END = 6,
     PGS_ZERO_LENGTH_SEGMENT = 7, /* never given: a segment that was read used 13 bytes at least */
+    PGS_PCS_IN_OPEN_SET = 8,
+    PGS_WDS_OUTSIDE_SET = 9,
+    PGS_PDS_OUTSIDE_SET = 10,
+    PGS_ODS_OUTSIDE_SET = 11,
+    PGS_SECOND_WDS = 12,
+    PGS_END_OUTSIDE_SET = 13,
+    PGS_UNKNOWN_OUTSIDE_SET = 14,
+    PGS_UNTERMINATED_SET = 15,
+    PGS_FIRST_FRAGMENT_WHILE_OPEN = 16,
+    PGS_DUPLICATE_OBJECT = 17,
+    PGS_FRAGMENT_WITHOUT_FIRST = 18,
+    PGS_FRAGMENT_AFTER_LAST = 19,
+    PGS_UNTERMINATED_OBJECT = 20,
+    PGS_DECLARED_LENGTH_TOO_SMALL = 21,
+    PGS_DECLARED_LENGTH_MISMATCH = 22,
+    PGS_TOO_MANY_OBJECTS = 23,
     PGS_RUN_PAST_WIDTH = 24,
     PGS_TRUNCATED_ESCAPE = 25,
     PGS_TRUNCATED_LONG_ZERO_RUN = 26,
@@ -49,7 +65,8 @@ enum {
     PGS_TOO_MANY_LINES = 30,
     PGS_PARTIAL_LAST_LINE = 31,
     PGS_LINE_COUNT_MISMATCH = 32,
-    PGS_BUFFER_TOO_SMALL = 34
+    PGS_BUFFER_TOO_SMALL = 34,
+    PGS_NO_SUCH_SET = 36
 };
 
 /* Kinds of segments: the cell PGS_SEGMENT_KIND. Any other byte is an unknown kind, and is kept. */
@@ -146,6 +163,34 @@ enum {
 };
 typedef uint64_t pgs_ods[PGS_ODS_CELLS];
 
+/* One display set of a stream. */
+enum {
+    PGS_SET_PLACE, /* where its PCS starts in the stream */
+    PGS_SET_END,   /* the place just after its END */
+    PGS_SET_PTS,   /* of its PCS */
+    PGS_SET_CELLS
+};
+typedef uint64_t pgs_set[PGS_SET_CELLS];
+
+/* One object of a set. Version and dimensions are those of its first fragment. */
+enum {
+    PGS_OBJECT_ID,
+    PGS_OBJECT_VERSION,
+    PGS_OBJECT_WIDTH,
+    PGS_OBJECT_HEIGHT,
+    PGS_OBJECT_HOLDER, /* where the data stands: PGS_IN_STREAM or PGS_IN_SCRATCH */
+    PGS_OBJECT_PLACE,  /* where the data starts there */
+    PGS_OBJECT_LENGTH,
+    PGS_OBJECT_CELLS
+};
+typedef uint64_t pgs_object[PGS_OBJECT_CELLS];
+
+/* Who holds an object's data: the cell PGS_OBJECT_HOLDER. */
+enum {
+    PGS_IN_STREAM = 0,
+    PGS_IN_SCRATCH = 1
+};
+
 /*
  * Reads a whole stream into the list of its segments, in order; count gets their number. Every body is read too,
  * so that bodies of accepted streams are accepted by the functions below. An empty stream is accepted with 0.
@@ -234,6 +279,33 @@ uint8_t pgs_clear_palette(uint8_t *table, size_t table_length);
 uint8_t pgs_apply_palette(const pgs_entry *entries, size_t entries_length,
                           uint8_t palette_id, uint8_t named,
                           uint8_t *table, size_t table_length);
+
+/*
+ * Reads a whole stream into the list of its display sets, in order; count gets their number. The segments of a set
+ * stand between the two places of its record, each read as by pgs_parse_segments. An empty stream is accepted with 0.
+ * Refusals: 1 to 6, anywhere in the stream; 8 to 15, of the first segment that is refused, 15 at the end; then 34.
+ */
+uint8_t pgs_parse_display_sets(const uint8_t *stream, size_t stream_length,
+                               pgs_set *sets, size_t sets_length,
+                               uint64_t *count);
+
+/* The most objects of one set. */
+enum {
+    PGS_MOST_OBJECTS = 64
+};
+
+/*
+ * Joins the fragments of each object of one set, counted from 0, into the list of its objects, in the order of their
+ * first fragments; count gets their number. An object of one fragment stays in the stream. Those of two or more are
+ * written to the scratch, one after another from its start. The joined data is what pgs_decode_rle takes.
+ * Refusals: 1 to 6 and 8 to 15 as above; 36; of the fragments in order 16 to 19 and 23, then of the objects in order
+ * 20 to 22; then 34, for a list or a scratch that is too short.
+ */
+uint8_t pgs_reassemble_objects(const uint8_t *stream, size_t stream_length,
+                               uint64_t set,
+                               uint8_t *scratch, size_t scratch_length,
+                               pgs_object *objects, size_t objects_length,
+                               uint64_t *count);
 
 #ifdef __cplusplus
 }

@@ -57,6 +57,52 @@ static void pixels_and_colors(const uint8_t *ods_body, const pgs_ods ods, const 
     expect("alpha without an entry", table[3], 0);
 }
 
+/* Two fragments of one object, and an object of one fragment. */
+static const uint8_t SETS[] = {
+    'P', 'G', 0, 0, 0, 9, 0, 0, 0, 0, 0x16, 0, 11, 0, 4, 0, 1, 0x10, 0, 1, 0x80, 0, 0, 0,
+    'P', 'G', 0, 0, 0, 9, 0, 0, 0, 0, 0x15, 0, 12, 0, 7, 3, 0x80, 0, 0, 6, 0, 2, 0, 1, 0xAA,
+    'P', 'G', 0, 0, 0, 9, 0, 0, 0, 0, 0x15, 0, 12, 0, 8, 4, 0xC0, 0, 0, 5, 0, 1, 0, 5, 0xCC,
+    'P', 'G', 0, 0, 0, 9, 0, 0, 0, 0, 0x15, 0, 8, 0, 7, 0, 0x40, 0, 0, 0, 0xBB,
+    'P', 'G', 0, 0, 0, 9, 0, 0, 0, 0, 0x80, 0, 0,
+};
+
+static void sets_and_objects(void) {
+    pgs_set set = {7, 7, 7};
+    pgs_object objects[2];
+    uint8_t scratch[3] = {9, 9, 9};
+    uint64_t count = 77;
+
+    expect("a list of sets too short", pgs_parse_display_sets(SETS, sizeof SETS, &set, 0, &count), PGS_BUFFER_TOO_SMALL);
+    expect("an unended set", pgs_parse_display_sets(SETS, sizeof SETS - 13, &set, 1, &count), PGS_UNTERMINATED_SET);
+    expect("the count of sets after a refusal", count, 77);
+    expect("the sets", pgs_parse_display_sets(SETS, sizeof SETS, &set, 1, &count), PGS_ACCEPTED);
+    expect("sets", count, 1);
+    expect("the place of the set", set[PGS_SET_PLACE], 0);
+    expect("the end of the set", set[PGS_SET_END], sizeof SETS);
+    expect("the PTS of the set", set[PGS_SET_PTS], 9);
+
+    count = 77;
+    expect("another set", pgs_reassemble_objects(SETS, sizeof SETS, 1, scratch, 3, objects, 2, &count), PGS_NO_SUCH_SET);
+    expect("a list of objects too short", pgs_reassemble_objects(SETS, sizeof SETS, 0, scratch, 3, objects, 1, &count), PGS_BUFFER_TOO_SMALL);
+    expect("a scratch too short", pgs_reassemble_objects(SETS, sizeof SETS, 0, scratch, 1, objects, 2, &count), PGS_BUFFER_TOO_SMALL);
+    expect("the count of objects after a refusal", count, 77);
+    expect("the scratch after a refusal", scratch[0], 9);
+    expect("the objects", pgs_reassemble_objects(SETS, sizeof SETS, 0, scratch, 3, objects, 2, &count), PGS_ACCEPTED);
+    expect("objects", count, 2);
+    expect("object id", objects[0][PGS_OBJECT_ID], 7);
+    expect("object version", objects[0][PGS_OBJECT_VERSION], 3);
+    expect("object width", objects[0][PGS_OBJECT_WIDTH], 2);
+    expect("holder of a joined object", objects[0][PGS_OBJECT_HOLDER], PGS_IN_SCRATCH);
+    expect("place of a joined object", objects[0][PGS_OBJECT_PLACE], 0);
+    expect("length of a joined object", objects[0][PGS_OBJECT_LENGTH], 2);
+    expect("first joined byte", scratch[0], 0xAA);
+    expect("second joined byte", scratch[1], 0xBB);
+    expect("the byte after the joined ones", scratch[2], 9);
+    expect("object height", objects[1][PGS_OBJECT_HEIGHT], 5);
+    expect("holder of a whole object", objects[1][PGS_OBJECT_HOLDER], PGS_IN_STREAM);
+    expect("byte of a whole object", SETS[objects[1][PGS_OBJECT_PLACE]], 0xCC);
+}
+
 int main(void) {
     pgs_segment segments[5];
     pgs_pcs pcs;
@@ -94,6 +140,7 @@ int main(void) {
     expect("data place", ods[PGS_ODS_DATA_PLACE], 11);
     expect("data length", ods[PGS_ODS_DATA_LENGTH], 11);
 
+    sets_and_objects();
     pixels_and_colors(body(segments[3]), ods, pds, (const pgs_entry *)&entry);
 
     if (faults == 0) {

@@ -181,7 +181,7 @@ pub fn bytes_call(
     same_number(answer, number).and(held).map_err(|what| format!("{name}, {room} bytes lent: {what}"))
 }
 
-fn same_number(answer: u8, number: u8) -> Result<(), String> {
+pub fn same_number(answer: u8, number: u8) -> Result<(), String> {
     if answer == number {
         return Ok(());
     }

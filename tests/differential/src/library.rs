@@ -16,6 +16,10 @@ pub type PdsRecord = [u8; 2];
 pub type EntryRecord = [u8; 5];
 /// Id, version, flag, declared length, dimensions present, width, height, place of the data, its length.
 pub type OdsRecord = [u64; 9];
+/// Place of the PCS, place just after the END, PTS of the PCS.
+pub type SetRecord = [u64; 3];
+/// Id, version, width, height, holder, place, length.
+pub type ObjectRecord = [u64; 7];
 /// A number of records.
 pub type Count = [u64; 1];
 /// For calls that answer a list and nothing beside it.
@@ -73,6 +77,23 @@ mod c {
             named: u8,
             table: *mut u8,
             table_len: usize,
+        ) -> u8;
+        pub fn pgs_parse_display_sets(
+            stream: *const u8,
+            stream_len: usize,
+            sets: *mut SetRecord,
+            sets_len: usize,
+            count: *mut Count,
+        ) -> u8;
+        pub fn pgs_reassemble_objects(
+            stream: *const u8,
+            stream_len: usize,
+            set: u64,
+            scratch: *mut u8,
+            scratch_len: usize,
+            objects: *mut ObjectRecord,
+            objects_len: usize,
+            count: *mut Count,
         ) -> u8;
     }
 }
@@ -157,4 +178,36 @@ pub fn clear_palette(table: *mut u8, len: usize) -> u8 {
 
 pub fn apply_palette(entries: &[EntryRecord], palette_id: u8, named: u8, table: *mut u8, len: usize) -> u8 {
     unsafe { c::pgs_apply_palette(entries.as_ptr(), entries.len(), palette_id, named, table, len) }
+}
+
+pub fn parse_display_sets(
+    stream: &Input,
+    _: &mut Lent<Nothing>,
+    sets: &mut Lent<SetRecord>,
+    count: &mut Lent<Count>,
+) -> u8 {
+    let len = sets.len();
+    unsafe { c::pgs_parse_display_sets(stream.pointer(), stream.len(), sets.pointer(), len, count.pointer()) }
+}
+
+pub fn reassemble_objects(
+    stream: &Input,
+    set: u64,
+    (scratch, scratch_len): (*mut u8, usize),
+    objects: &mut Lent<ObjectRecord>,
+    count: &mut Lent<Count>,
+) -> u8 {
+    let len = objects.len();
+    unsafe {
+        c::pgs_reassemble_objects(
+            stream.pointer(),
+            stream.len(),
+            set,
+            scratch,
+            scratch_len,
+            objects.pointer(),
+            len,
+            count.pointer(),
+        )
+    }
 }

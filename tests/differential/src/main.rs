@@ -12,6 +12,7 @@ mod prng;
 mod run;
 mod samples;
 mod segments;
+mod sets;
 mod sheet;
 mod shrink;
 mod vast;
@@ -26,8 +27,9 @@ const USAGE: &str = "\
 differential                                    the examples, then the comparison
 differential examples                           the examples alone
 differential compare [--seed N] [--streams N] [--layer NAME]
-                                                the comparison alone; NAME is segments, bitmap or color
+                                                the comparison alone; NAME is segments, bitmap, color or sets
 differential stream HEX                         one stream
+differential sets HEX                           one stream: its sets and their objects
 differential body KIND HEX                      one body; KIND is 14, 15, 16 or 17
 differential bitmap HEX                         one bitmap: width and height, 2 bytes each, then the data
 differential color HEX                          one colour: Y, Cb, Cr
@@ -36,7 +38,7 @@ differential palettes HEX                       palettes: the named id, then for
 HEX is hexadecimal digits, or @ and the name of a file that has them";
 
 /// The layers in the order in which they are compared.
-const LAYERS: [Layer; 3] = [segments::LAYER, bitmap::LAYER, color::LAYER];
+const LAYERS: [Layer; 4] = [segments::LAYER, bitmap::LAYER, color::LAYER, sets::LAYER];
 
 fn main() -> ExitCode {
     let words: Vec<String> = std::env::args().skip(1).collect();
@@ -53,6 +55,7 @@ fn main() -> ExitCode {
             let kind = u8::from_str_radix(kind, 16).expect("two digits");
             one(hex, |body, tally| segments::check_body(kind, body, tally))
         }
+        ["sets", ref hex @ ..] => one(hex, sets::check),
         ["bitmap", ref hex @ ..] => one(hex, bitmap::check),
         ["color", ref hex @ ..] => one(hex, color::check_color),
         ["palettes", ref hex @ ..] => one(hex, color::check_palettes),
