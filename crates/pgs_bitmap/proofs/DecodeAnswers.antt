@@ -9,10 +9,10 @@ use lib.Dec.{leb}
 use lib.ListN.{length, take, drop}
 use lib.Seq.{length-take-le}
 use borrow.Author.Tests.{le-leb, lt-leb}
-use Rattle.pgs_base.specs.Outcome.{Verdict, accepted, refused, andThen, unless}
+use Rattle.pgs_base.specs.Outcome.{Verdict, accepted, refused, andThen, unless, laid}
 use Rattle.pgs_base.specs.declared.refusal.Refusal.the-variants.{BufferTooSmall}
 use Rattle.pgs_bitmap.specs.Bitmap.{readingOf, bitmapOf}
-use Rattle.pgs_bitmap.specs.Decoding.{outcome, decodeVerdict, pixelsAfter, Decoding}
+use Rattle.pgs_bitmap.specs.Decoding.{outcome, decodeVerdict, Decoding}
 use Rattle.pgs_bitmap.specs.declared.bitmap.Decoded.{Decoded}
 use Rattle.pgs_bitmap.specs.declared.bitmap.Decoded.the-variants.{Accepted, Refused}
 use Rattle.pgs_bitmap.proofs.BitmapArea.{bitmap-area}
@@ -26,11 +26,11 @@ area-fits {width} {height} w h =
 module _ (bytes : List ℕ) (width height : ℕ) (before : List ℕ) where
   -- with the verdict of the call in hand
   answer : (r : Decoded) (after : List ℕ) (v : Verdict) → decodeVerdict bytes width height (length before) ≡ v
-      → outcome r ≡ v → after ≡ pixelsAfter v (bitmapOf bytes) before → Decoding bytes width height before r after
+      → outcome r ≡ v → after ≡ laid v (bitmapOf bytes) before → Decoding bytes width height before r after
   answer r after v e o s =
       record {
         answered = o ∙ sym e;
-        stored = s ∙ ap (λ (u : Verdict). pixelsAfter u (bitmapOf bytes) before) (sym e);
+        stored = s ∙ ap (λ (u : Verdict). laid u (bitmapOf bytes) before) (sym e);
       }
 
   -- the bitmap's verdict, then 34

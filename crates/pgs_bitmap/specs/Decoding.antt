@@ -1,10 +1,10 @@
 -- What reading a bitmap answers, and what it leaves in the pixels lent to it: 01, 'Why a call is turned down'.
 use mathlib.Core.Path.{_≡_}
-use mathlib.Core.List.{List, _++_}
+use mathlib.Core.List.{List}
 use Prim.Native.Nat.{ℕ, _*_}
 use lib.Dec.{leb}
-use lib.ListN.{length, drop}
-use Rattle.pgs_base.specs.Outcome.{Verdict, accepted, refused, andThen, unless}
+use lib.ListN.{length}
+use Rattle.pgs_base.specs.Outcome.{Verdict, accepted, refused, andThen, unless, laid}
 use Rattle.pgs_base.specs.Refusals.{numberOf}
 use Rattle.pgs_bitmap.specs.Bitmap.{readingOf, bitmapOf}
 use Rattle.pgs_bitmap.specs.declared.bitmap.Decoded.{Decoded}
@@ -19,12 +19,7 @@ outcome (Refused why) = refused (numberOf why)
 abbrev pub decodeVerdict : List ℕ → (width height room : ℕ) → Verdict
 decodeVerdict bytes width height room = andThen (readingOf bytes width height .verdict) (unless 34 (leb (width * height) room))
 
--- "An accepted call changes only the bytes or records it needs"; "A refused call changes nothing"
-abbrev pub pixelsAfter : Verdict → (bitmap before : List ℕ) → List ℕ
-pixelsAfter accepted bitmap before = bitmap ++ drop (length bitmap) before
-pixelsAfter (refused k) bitmap before = before
-
 -- the contract of `decode_rle`: its answer, and the pixels before and after it
 pub record Decoding (bytes : List ℕ) (width height : ℕ) (before : List ℕ) (answer : Decoded) (after : List ℕ) : Type 0 where
   pub answered : outcome answer ≡ decodeVerdict bytes width height (length before)
-  pub stored : after ≡ pixelsAfter (decodeVerdict bytes width height (length before)) (bitmapOf bytes) before
+  pub stored : after ≡ laid (decodeVerdict bytes width height (length before)) (bitmapOf bytes) before

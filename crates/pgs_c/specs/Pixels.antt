@@ -3,9 +3,9 @@ use Prim.Native.Nat.{ℕ, _+_, _*_}
 use mathlib.Core.Path.{_≡_}
 use mathlib.Core.List.{List}
 use lib.ListN.{length}
-use Rattle.pgs_base.specs.Outcome.{Verdict, unless, pick}
+use Rattle.pgs_base.specs.Outcome.{Verdict, unless, pick, laid}
 use Rattle.pgs_bitmap.specs.Bitmap.{bitmapOf}
-use Rattle.pgs_bitmap.specs.Decoding.{decodeVerdict, pixelsAfter}
+use Rattle.pgs_bitmap.specs.Decoding.{decodeVerdict}
 use Rattle.pgs_c.specs.Calls.{codeOf}
 use Rattle.pgs_color.specs.Table.{holds}
 use Rattle.pgs_color.specs.declared.ycbcr.Rgb8.{Rgb8}
@@ -13,7 +13,7 @@ use Rattle.pgs_color.specs.declared.ycbcr.Rgb8.{Rgb8}
 -- a bitmap: its pixels
 pub record BitmapCall (bytes : List ℕ) (width height : ℕ) (pixels pixels′ : List ℕ) (r : ℕ) : Type 0 where
   pub code : r ≡ codeOf (decodeVerdict bytes width height (length pixels))
-  pub stored : pixels′ ≡ pixelsAfter (decodeVerdict bytes width height (length pixels)) (bitmapOf bytes) pixels
+  pub stored : pixels′ ≡ laid (decodeVerdict bytes width height (length pixels)) (bitmapOf bytes) pixels
 
 -- R·65536 + G·256 + B
 abbrev pub packed : Rgb8 → ℕ
