@@ -298,8 +298,9 @@ enum {
  * Joins the fragments of each object of one set, counted from 0, into the list of its objects, in the order of their
  * first fragments; count gets their number. An object of one fragment stays in the stream. Those of two or more are
  * written to the scratch, one after another from its start. The joined data is what pgs_decode_rle takes.
- * Refusals: 1 to 6 and 8 to 15 as above; 36; of the fragments in order 16 to 19 and 23, then of the objects in order
- * 20 to 22; then 34, for a list or a scratch that is too short.
+ * A list of PGS_MOST_OBJECTS and a scratch as long as the stream always suffice.
+ * Refusals: 1 to 6 and 8 to 15 as above; 36; 16 to 19 or 23, of the first fragment that is refused, 16 and 17 before
+ * 23; then 20 to 22, of the first object that is refused; then 34, for a list or a scratch that is too short.
  */
 uint8_t pgs_reassemble_objects(const uint8_t *stream, size_t stream_length,
                                uint64_t set,
