@@ -93,3 +93,14 @@ pub fit-fields : (ws : List ℕ) (at : ℕ) (l : List ℕ) → Bytes l → at + 
 fit-fields [] at l h q = refl
 fit-fields (w ∷ ws) at l h q =
     simp (lt-ltb (num w at l) (256 ^ w) (num-bound w at l h (omega arith))) (fit-fields ws (at + w) l h (omega arith))
+
+-- fields before others
+pub written-append : (fs gs : List Field) → written (fs ++ gs) ≡ written fs ++ written gs
+written-append [] gs = refl
+written-append (f ∷ fs) gs = rw (written-append fs gs, append-assoc)
+
+pub fit-append : (fs gs : List Field) → allFit fs ≡ true → allFit gs ≡ true → allFit (fs ++ gs) ≡ true
+fit-append [] gs e q = q
+fit-append (f ∷ fs) gs e q =
+    let t = ltb (f .1) (256 ^ f .0) in
+    simp (first-fits t (allFit fs) e) (fit-append fs gs (rest-fits t (allFit fs) e) q)

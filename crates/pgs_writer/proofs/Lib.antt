@@ -1,7 +1,12 @@
 pub mod Demand3
+pub mod EachLaws
+pub mod FitLaws
 pub mod KeptBodies
 pub mod LayoutLaws
+pub mod PutLaws
 pub mod RecordBytes
 pub mod RecordKinds
 pub mod SegmentBytes
+pub mod WriteKinds
+pub mod WriteLaws
 pub mod WrittenBodies

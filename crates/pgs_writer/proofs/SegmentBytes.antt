@@ -29,7 +29,7 @@ use Rattle.pgs_writer.specs.Encode.{headFields, bodyBytes, encode}
 use Rattle.pgs_writer.specs.Layout.{Field, written, allFit}
 use Rattle.pgs_writer.specs.Writable.{bodyWritable, unknownKind, writable}
 use Rattle.pgs_writer.proofs.KeptBodies.{keptBy, KeptBody, kept-body}
-use Rattle.pgs_writer.proofs.LayoutLaws.{length-written, read-fields, write-fields, fit-fields, num-bound}
+use Rattle.pgs_writer.proofs.LayoutLaws.{length-written, read-fields, write-fields, fit-fields, num-bound, written-append, fit-append}
 use Rattle.pgs_writer.proofs.WrittenBodies.{ReadBody, read-body, unknown-kind}
 
 -- a byte as a number, also past the end
@@ -74,17 +74,6 @@ kept-by v b = pcs? (eqb v 0x16) refl
         at-value 0x16 e
         (ap (λ (k : ℕ). 11 + keptPlacements k (drop 11 b)) (byte-at 10 b) ∙ ap (λ (k : ℕ). 11 + k) (kept-placements (num 1 10 b) (drop 11 b)))
     pcs? false e = wds? e (eqb v 0x17) refl
-
--- fields before others
-written-append : (fs gs : List Field) → written (fs ++ gs) ≡ written fs ++ written gs
-written-append [] gs = refl
-written-append (f ∷ fs) gs = rw (written-append fs gs, append-assoc)
-
-fit-append : (fs gs : List Field) → allFit fs ≡ true → allFit gs ≡ true → allFit (fs ++ gs) ≡ true
-fit-append [] gs e q = q
-fit-append (f ∷ fs) gs e q =
-    let t = ltb (f .1) (256 ^ f .0) in
-    simp (first-fits t (allFit fs) e) (fit-append fs gs (rest-fits t (allFit fs) e) q)
 
 -- the head but for its size
 abbrev frontFields : ℕ → ℕ → ℕ → ℕ → ℕ → List Field

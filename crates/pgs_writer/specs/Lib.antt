@@ -1,6 +1,9 @@
+pub mod Answers
 pub mod Cut
 pub mod Demand3
 pub mod Encode
+pub mod Kinds
 pub mod Layout
+pub mod Rows
 pub mod Writable
 pub mod Writes

@@ -1,1 +1,10 @@
-// The writer (01, module 5). Its definitions and what is proved of them stand in specs/ and proofs/.
+// The writer (01, module 5): each kind of segment, and lists of writes.
+// `specs/Demand3.antt` says what is proved of a stream that is written.
+pub mod end;
+pub mod head;
+pub mod ods;
+pub mod other;
+pub mod pcs;
+pub mod pds;
+mod put;
+pub mod wds;

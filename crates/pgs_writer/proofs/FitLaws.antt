@@ -1,0 +1,19 @@
+-- Tests that numbers fit their fields. Assumes nothing.
+use mathlib.Core.Path.{_≡_, refl, sym, ap, _∙_}
+use mathlib.Core.Bool.{Bool, true, false}
+use mathlib.Core.List.{List, [], _∷_}
+use Prim.Native.Nat.{ℕ, suc, _≤_, _<_}
+use native.Mathlib.Omega.{arith}
+use lib.Dec.{leb, ltb}
+use Rattle.pgs_base.specs.Outcome.{pick}
+use Rattle.pgs_base.proofs.Decisions.{leb-same}
+
+-- one test decides where all others hold
+pub id-fits : (n : ℕ) (rest : Bool) → rest ≡ true → leb n 255 ≡ pick (ltb n 256) rest false
+id-fits n rest e =
+    leb-same n 255 (suc n) 256 (λ h. omega arith) (λ h. omega arith)
+    ∙ sym (ap (λ (t : Bool). pick (ltb n 256) t false) e ∙ same (ltb n 256))
+  where
+    same : (t : Bool) → pick t true false ≡ t
+    same true = refl
+    same false = refl

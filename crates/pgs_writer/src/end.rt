@@ -1,0 +1,21 @@
+// The writer of an END.
+use crate::head::WriteAnswer;
+use crate::head::put_head;
+use pgs_base::refusal::Refusal;
+ghost use lib.ListN.{length};
+ghost use Rattle.pgs_base.specs.Outcome.{Delivered};
+ghost use Rattle.pgs_writer.specs.Answers.{writeOutcome};
+ghost use Rattle.pgs_writer.specs.Encode.{encode};
+ghost use Rattle.pgs_writer.specs.Kinds.{endSegment};
+ghost use Rattle.pgs_writer.specs.Writable.{writeVerdict};
+
+// Writes an END, which has no body.
+pub fn encode_end(pts: u32, dts: u32, out: &mut [u8]) -> WriteAnswer
+    ensures { λ r. ⌜ Delivered (writeVerdict (endSegment pts dts)) (length (encode (endSegment pts dts))) (encode (endSegment pts dts)) (now (out .entry)) (now (out .exit)) (writeOutcome r) ⌝ }
+{
+    if out.len() < 13 {
+        return WriteAnswer::Refused(Refusal::BufferTooSmall);
+    }
+    put_head(out, pts, dts, 0x80, 0);
+    WriteAnswer::Written(13)
+}
