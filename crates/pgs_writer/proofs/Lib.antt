@@ -4,9 +4,11 @@ pub mod FitLaws
 pub mod KeptBodies
 pub mod LayoutLaws
 pub mod PutLaws
+pub mod ReadAgain
 pub mod RecordBytes
 pub mod RecordKinds
 pub mod SegmentBytes
+pub mod StreamWriteLaws
 pub mod WriteKinds
 pub mod WriteLaws
 pub mod WrittenBodies

@@ -3,7 +3,8 @@ use Prim.Native.Nat.{ℕ}
 use mathlib.Core.Bool.{Bool, false}
 use mathlib.Core.List.{List, map}
 use Rattle.pgs_base.specs.Outcome.{pick}
-use Rattle.pgs_segment.specs.Fields.{pcs, wds, pds, ods, end, other, SegmentFields}
+use Rattle.pgs_segment.specs.Fields.{pcs, wds, pds, ods, end, other, SegmentFields, bodyOf}
+use Rattle.pgs_base.specs.declared.«segment_type».SegmentType.{SegmentType}
 use Rattle.pgs_segment.specs.declared.ods.Ods.{Ods}
 use Rattle.pgs_segment.specs.declared.pcs.Pcs.{Pcs}
 use Rattle.pgs_segment.specs.declared.pds.Pds.{Pds}
@@ -42,3 +43,7 @@ pcsSegment pts dts p rows = record { pts = pts; dts = dts; body = pcs p (map pla
 -- whether such a PCS can be written: a record whose mark of a crop is neither 0 nor 1 stands for no placement, so it cannot
 abbrev pub pcsRowsWritable : ℕ → ℕ → Pcs → List (List ℕ) → Bool
 pcsRowsWritable pts dts p rows = pick (each markFits rows) (writable (pcsSegment pts dts p rows)) false
+
+-- a segment of the fields that a body of this kind has
+abbrev pub segmentWith : ℕ → ℕ → SegmentType → List ℕ → SegmentFields
+segmentWith pts dts kind b = record { pts = pts; dts = dts; body = bodyOf kind b }

@@ -5,5 +5,6 @@ pub mod Encode
 pub mod Kinds
 pub mod Layout
 pub mod Rows
+pub mod StreamWrites
 pub mod Writable
 pub mod Writes

@@ -7,4 +7,6 @@ pub mod other;
 pub mod pcs;
 pub mod pds;
 mod put;
+mod rewrite;
+pub mod stream;
 pub mod wds;
