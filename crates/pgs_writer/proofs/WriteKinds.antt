@@ -13,6 +13,7 @@ use Rattle.pgs_base.specs.Outcome.{pick}
 use Rattle.pgs_segment.specs.Fields.{pcs, wds, pds, ods, SegmentFields}
 use Rattle.pgs_base.specs.Fragments.{fragmentOf, isFirst}
 use Rattle.pgs_segment.specs.declared.ods.Dimensions.{Dimensions}
+use Rattle.pgs_segment.specs.declared.ods.Dimensions.the-variants.{Absent, Present}
 use Rattle.pgs_segment.specs.declared.ods.Ods.{Ods}
 use Rattle.pgs_segment.specs.declared.pcs.Pcs.{Pcs}
 use Rattle.pgs_segment.specs.declared.pds.PaletteEntry.{PaletteEntry}
@@ -131,6 +132,39 @@ module _ (o : Ods) (hi : o .«object_id» < 65536) (hv : o .«object_version_num
 pub pick-self : (t : Bool) → t ≡ pick t true false
 pick-self true = refl
 pick-self false = refl
+
+module _ (o : Ods) where
+  -- how many bytes the numbers take, by the dimensions
+  pub ods-size-at : {x : Dimensions} → o .dimensions ≡ x → length (written (odsFields o)) ≡ length (written (odsBase o x))
+  ods-size-at q = ap (λ (x : Dimensions). length (written (odsBase o x))) q
+
+  pub ods-size-most : length (written (odsFields o)) ≤ 11
+  ods-size-most = most (o .dimensions)
+    where
+      most : (x : Dimensions) → length (written (odsBase o x)) ≤ 11
+      most Absent = omega arith
+      most (Present w h) = omega arith
+
+  module _ (m : List ℕ) {a b c e : List ℕ} (ea : a ≡ sets m 13 (bytesOf 2 (o .«object_id»))) (eb : b ≡ sets a 15 (bytesOf 1 (o .«object_version_number»)))
+      (ec : c ≡ sets b 16 (bytesOf 1 (o .«last_in_sequence_flag»))) (ee : e ≡ sets c 17 (bytesOf 3 (o .«object_data_length»))) where
+    -- the numbers before the dimensions, stored one after another
+    base-stored : e ≡ sets m 13 (written (odsBase o Absent))
+    base-stored =
+        let fs : List Field = (2, o .«object_id») ∷ [] in
+        let gs : List Field = (2, o .«object_id») ∷ (1, o .«object_version_number») ∷ [] in
+        let hs : List Field = (2, o .«object_id») ∷ (1, o .«object_version_number») ∷ (1, o .«last_in_sequence_flag») ∷ [] in
+        wrote m 13 hs 3 (o .«object_data_length»)
+        (wrote m 13 gs 1 (o .«last_in_sequence_flag») (wrote m 13 fs 1 (o .«object_version_number») ea refl eb) refl ec)
+        refl ee
+
+    pub ods-stored : o .dimensions ≡ Absent → e ≡ sets m 13 (written (odsFields o))
+    ods-stored q = base-stored ∙ sym (ap (λ (x : Dimensions). sets m 13 (written (odsBase o x))) q)
+
+    pub ods-stored-with : (w h : ℕ) → o .dimensions ≡ Present w h → {f g : List ℕ} → f ≡ sets e 20 (bytesOf 2 w) → g ≡ sets f 22 (bytesOf 2 h)
+        → g ≡ sets m 13 (written (odsFields o))
+    ods-stored-with w h q ef eg =
+        wrote m 13 (odsBase o Absent ++ ((2, w) ∷ [])) 2 h (wrote m 13 (odsBase o Absent) 2 w base-stored refl ef) refl eg
+        ∙ sym (ap (λ (x : Dimensions). sets m 13 (written (odsBase o x))) q)
 
 module _ (o : Ods) (data′ : List ℕ) where
   pub ods-length : length (bodyBytes (ods o data′)) ≡ length (written (odsFields o)) + length data′
