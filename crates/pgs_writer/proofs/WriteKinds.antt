@@ -24,6 +24,7 @@ use Rattle.pgs_writer.specs.Kinds.{wdsSegment, windowRowsFit, pdsSegment
 use Rattle.pgs_writer.specs.Layout.{Field, written, allFit, each, recordBytes}
 use Rattle.pgs_writer.specs.Rows.{windowFrom, entryFrom, placementFrom}
 use Rattle.pgs_writer.specs.Writable.{bodyWritable, writable, odsWritable, dimensionsWhere}
+use Rattle.pgs_writer.proofs.FitLaws.{pick-neither}
 use Rattle.pgs_writer.proofs.LayoutLaws.{length-written}
 use Rattle.pgs_writer.proofs.PutLaws.{then-sets, wrote}
 use Rattle.pgs_writer.proofs.WriteLaws.{unwritable-body, unwritable-size, writable-body}
@@ -77,11 +78,7 @@ module _ (p d : ℕ) (n : Pds) (rows : List (List ℕ)) where
   pds-many hp hd h = unwritable-size (pdsSegment p d n rows) hp hd (omega arith) (omega (arith, pds-length))
 
   pub pds-unfit : each (λ e. allFit (entryFields e)) (map entryFrom rows) ≡ false → writable (pdsSegment p d n rows) ≡ false
-  pds-unfit e = unwritable-body (pdsSegment p d n rows) (rw e (neither (allFit (pdsFields n))))
-    where
-      neither : (t : Bool) → pick t false false ≡ false
-      neither true = refl
-      neither false = refl
+  pds-unfit e = unwritable-body (pdsSegment p d n rows) (rw e (pick-neither (allFit (pdsFields n))))
 
   pub pds-writable : p < 2 ^ 32 → d < 2 ^ 32 → n .«palette_id» < 256 → n .«palette_version_number» < 256 → length rows ≤ 13106
       → each (λ e. allFit (entryFields e)) (map entryFrom rows) ≡ true → writable (pdsSegment p d n rows) ≡ true
@@ -112,11 +109,7 @@ module _ (o : Ods) (hi : o .«object_id» < 65536) (hv : o .«object_version_num
       let t = dimensionsWhere (isFirst (fragmentOf (o .«last_in_sequence_flag»))) (o .dimensions) in
       let e : allFit (odsFields o) ≡ false
       = simp (lt-ltb (o .«object_id») (256 ^ 2) hi, lt-ltb (o .«object_version_number») (256 ^ 1) hv, lt-ltb (o .«last_in_sequence_flag») (256 ^ 1) hf, le-ltb (o .«object_data_length») (256 ^ 3) (omega arith)) in
-      ap (λ (u : Bool). pick t u false) e ∙ neither t
-    where
-      neither : (t : Bool) → pick t false false ≡ false
-      neither true = refl
-      neither false = refl
+      ap (λ (u : Bool). pick t u false) e ∙ pick-neither t
 
   base-fits : o .«object_data_length» ≤ 0xFFFFFF → (x : Dimensions) → allFit (odsBase o x) ≡ allFit (dimensionFields x)
   base-fits h x =
@@ -127,11 +120,6 @@ module _ (o : Ods) (hi : o .«object_id» < 65536) (hv : o .«object_version_num
   ods-shape h x q =
       (λ i. pick (dimensionsWhere (isFirst (fragmentOf (o .«last_in_sequence_flag»))) (q i)) (allFit (odsBase o (q i))) false)
       ∙ ap (λ (u : Bool). pick (dimensionsWhere (isFirst (fragmentOf (o .«last_in_sequence_flag»))) x) u false) (base-fits h x)
-
--- a test that is its own answer
-pub pick-self : (t : Bool) → t ≡ pick t true false
-pick-self true = refl
-pick-self false = refl
 
 module _ (o : Ods) where
   -- how many bytes the numbers take, by the dimensions
