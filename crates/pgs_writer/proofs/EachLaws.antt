@@ -2,13 +2,12 @@
 use mathlib.Core.Path.{_≡_, refl, sym, ap, _∙_}
 use mathlib.Core.Bool.{Bool, true, false}
 use mathlib.Core.List.{List, [], _∷_, _++_, map}
-use Prim.Native.Nat.{ℕ, zero, suc, _+_, _-_, _*_, _≤_, _<_}
+use Prim.Native.Nat.{ℕ, zero, suc, _+_, _-_, _≤_, _<_}
 use native.Mathlib.Nat.{add-zero}
 use native.Mathlib.Numerals.{add-one}
 use native.Mathlib.Omega.{arith}
-use lib.ListN.{length, drop, getD, set, length-append}
+use lib.ListN.{length, drop, getD, length-append}
 use lib.Seq.{sets, length-sets, drop-cons, drop-length}
-use Rattle.pgs_base.specs.Outcome.{pick}
 use Rattle.pgs_segment.proofs.RecordLaws.{first-fits, rest-fits}
 use Rattle.pgs_writer.specs.Layout.{Field, written, each, recordBytes}
 use Rattle.pgs_writer.proofs.PutLaws.{sets-append}

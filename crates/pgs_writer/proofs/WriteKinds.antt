@@ -10,20 +10,19 @@ use lib.ListN.{length, length-append, length-map}
 use lib.Seq.{sets}
 use Rattle.pgs_base.specs.Bytes.{bytesOf}
 use Rattle.pgs_base.specs.Outcome.{pick}
-use Rattle.pgs_segment.specs.Fields.{pcs, wds, pds, ods, SegmentFields}
+use Rattle.pgs_segment.specs.Fields.{wds, pds, ods}
 use Rattle.pgs_base.specs.Fragments.{fragmentOf, isFirst}
 use Rattle.pgs_segment.specs.declared.ods.Dimensions.{Dimensions}
 use Rattle.pgs_segment.specs.declared.ods.Dimensions.the-variants.{Absent, Present}
 use Rattle.pgs_segment.specs.declared.ods.Ods.{Ods}
-use Rattle.pgs_segment.specs.declared.pcs.Pcs.{Pcs}
 use Rattle.pgs_segment.specs.declared.pds.PaletteEntry.{PaletteEntry}
 use Rattle.pgs_segment.specs.declared.pds.Pds.{Pds}
 use Rattle.pgs_segment.specs.declared.wds.Window.{Window}
 use Rattle.pgs_writer.specs.Encode.{bodyBytes, windowFields, entryFields, pdsFields, odsFields, dimensionFields}
-use Rattle.pgs_writer.specs.Kinds.{wdsSegment, windowRowsFit, pdsSegment, odsSegment, pcsSegment}
+use Rattle.pgs_writer.specs.Kinds.{wdsSegment, windowRowsFit, pdsSegment}
 use Rattle.pgs_writer.specs.Layout.{Field, written, allFit, each, recordBytes}
-use Rattle.pgs_writer.specs.Rows.{windowFrom, entryFrom, placementFrom}
-use Rattle.pgs_writer.specs.Writable.{bodyWritable, writable, odsWritable, dimensionsWhere}
+use Rattle.pgs_writer.specs.Rows.{windowFrom, entryFrom}
+use Rattle.pgs_writer.specs.Writable.{writable, odsWritable, dimensionsWhere}
 use Rattle.pgs_writer.proofs.FitLaws.{pick-neither}
 use Rattle.pgs_writer.proofs.LayoutLaws.{length-written}
 use Rattle.pgs_writer.proofs.PutLaws.{then-sets, wrote}

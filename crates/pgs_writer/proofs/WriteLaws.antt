@@ -1,16 +1,16 @@
 -- How a write ends, for fields of any kind: 35, 34, or the whole segment. Assumes nothing.
-use mathlib.Core.Path.{_≡_, refl, sym, ap, _∙_}
+use mathlib.Core.Path.{_≡_, sym, ap, _∙_}
 use mathlib.Core.Bool.{Bool, true, false}
-use mathlib.Core.List.{List, [], _∷_, _++_}
+use mathlib.Core.List.{List, _++_}
 use Prim.Native.Nat.{ℕ, _+_, _^_, _≤_, _<_}
 use native.Mathlib.Omega.{arith}
 use borrow.Author.Tests.{lt-ltb, le-ltb}
 use lib.Dec.{ltb}
 use lib.ListN.{length, length-append}
 use lib.Seq.{sets}
-use Rattle.pgs_base.specs.Outcome.{Outcome, gives, refuses, pick, unless, Delivered}
+use Rattle.pgs_base.specs.Outcome.{gives, refuses, pick, unless, Delivered}
 use Rattle.pgs_base.proofs.Outcomes.{delivers-refusal, delivers-short, delivers-all}
-use Rattle.pgs_segment.specs.Fields.{BodyFields, SegmentFields, kindByte}
+use Rattle.pgs_segment.specs.Fields.{SegmentFields, kindByte}
 use Rattle.pgs_writer.specs.Encode.{headFields, bodyBytes, encode}
 use Rattle.pgs_writer.specs.Layout.{Field, written, allFit}
 use Rattle.pgs_writer.specs.Writable.{bodyWritable, writable}

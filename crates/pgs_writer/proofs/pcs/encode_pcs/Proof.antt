@@ -16,7 +16,7 @@ numbers : (c : tie.Start) → PcsFits (c .args .pcs)
 numbers c = search needs
 
 returns : tie.Need-returns
-returns c = write-35 (pcsSegment (c .before .before .args .pts) (c .before .before .args .dts) (c .before .before .args .pcs) (now (c .before .before .args .placements))) (now (c .before .before .args .out)) (pcs-many (c .before .before .args .pts) (c .before .before .args .dts) (c .before .before .args .pcs) (now (c .before .before .args .placements)) (numbers (c .before .before)) (c .if1 .taken))
+returns c = write-35 (pcsSegment (c .before .before .args .pts) (c .before .before .args .dts) (c .before .before .args .pcs) (now (c .before .before .args .placements))) (now (c .before .before .args .out)) (pcs-many (c .before .before .args .pts) (c .before .before .args .dts) (c .before .before .args .pcs) (now (c .before .before .args .placements)) (numbers (c .before .before)) (omega arith))
 
 placements-fit-requires : tie.Need-placements-fit-requires
 placements-fit-requires c κs = search needs
