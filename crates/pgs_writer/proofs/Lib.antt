@@ -3,6 +3,7 @@ pub mod EachLaws
 pub mod FitLaws
 pub mod KeptBodies
 pub mod LayoutLaws
+pub mod PlacementLaws
 pub mod PutLaws
 pub mod ReadAgain
 pub mod RecordBytes

@@ -10,19 +10,20 @@ use lib.ListN.{length, length-append, length-map}
 use lib.Seq.{sets}
 use Rattle.pgs_base.specs.Bytes.{bytesOf}
 use Rattle.pgs_base.specs.Outcome.{pick}
-use Rattle.pgs_segment.specs.Fields.{pcs, wds, pds, ods, SegmentFields}
+use Rattle.pgs_segment.specs.Fields.{wds, pds, ods}
 use Rattle.pgs_base.specs.Fragments.{fragmentOf, isFirst}
 use Rattle.pgs_segment.specs.declared.ods.Dimensions.{Dimensions}
+use Rattle.pgs_segment.specs.declared.ods.Dimensions.the-variants.{Absent, Present}
 use Rattle.pgs_segment.specs.declared.ods.Ods.{Ods}
-use Rattle.pgs_segment.specs.declared.pcs.Pcs.{Pcs}
 use Rattle.pgs_segment.specs.declared.pds.PaletteEntry.{PaletteEntry}
 use Rattle.pgs_segment.specs.declared.pds.Pds.{Pds}
 use Rattle.pgs_segment.specs.declared.wds.Window.{Window}
 use Rattle.pgs_writer.specs.Encode.{bodyBytes, windowFields, entryFields, pdsFields, odsFields, dimensionFields}
-use Rattle.pgs_writer.specs.Kinds.{wdsSegment, windowRowsFit, pdsSegment, odsSegment, pcsSegment}
+use Rattle.pgs_writer.specs.Kinds.{wdsSegment, windowRowsFit, pdsSegment}
 use Rattle.pgs_writer.specs.Layout.{Field, written, allFit, each, recordBytes}
-use Rattle.pgs_writer.specs.Rows.{windowFrom, entryFrom, placementFrom}
-use Rattle.pgs_writer.specs.Writable.{bodyWritable, writable, odsWritable, dimensionsWhere}
+use Rattle.pgs_writer.specs.Rows.{windowFrom, entryFrom}
+use Rattle.pgs_writer.specs.Writable.{writable, odsWritable, dimensionsWhere}
+use Rattle.pgs_writer.proofs.FitLaws.{pick-neither}
 use Rattle.pgs_writer.proofs.LayoutLaws.{length-written}
 use Rattle.pgs_writer.proofs.PutLaws.{then-sets, wrote}
 use Rattle.pgs_writer.proofs.WriteLaws.{unwritable-body, unwritable-size, writable-body}
@@ -76,11 +77,7 @@ module _ (p d : ℕ) (n : Pds) (rows : List (List ℕ)) where
   pds-many hp hd h = unwritable-size (pdsSegment p d n rows) hp hd (omega arith) (omega (arith, pds-length))
 
   pub pds-unfit : each (λ e. allFit (entryFields e)) (map entryFrom rows) ≡ false → writable (pdsSegment p d n rows) ≡ false
-  pds-unfit e = unwritable-body (pdsSegment p d n rows) (rw e (neither (allFit (pdsFields n))))
-    where
-      neither : (t : Bool) → pick t false false ≡ false
-      neither true = refl
-      neither false = refl
+  pds-unfit e = unwritable-body (pdsSegment p d n rows) (rw e (pick-neither (allFit (pdsFields n))))
 
   pub pds-writable : p < 2 ^ 32 → d < 2 ^ 32 → n .«palette_id» < 256 → n .«palette_version_number» < 256 → length rows ≤ 13106
       → each (λ e. allFit (entryFields e)) (map entryFrom rows) ≡ true → writable (pdsSegment p d n rows) ≡ true
@@ -111,11 +108,7 @@ module _ (o : Ods) (hi : o .«object_id» < 65536) (hv : o .«object_version_num
       let t = dimensionsWhere (isFirst (fragmentOf (o .«last_in_sequence_flag»))) (o .dimensions) in
       let e : allFit (odsFields o) ≡ false
       = simp (lt-ltb (o .«object_id») (256 ^ 2) hi, lt-ltb (o .«object_version_number») (256 ^ 1) hv, lt-ltb (o .«last_in_sequence_flag») (256 ^ 1) hf, le-ltb (o .«object_data_length») (256 ^ 3) (omega arith)) in
-      ap (λ (u : Bool). pick t u false) e ∙ neither t
-    where
-      neither : (t : Bool) → pick t false false ≡ false
-      neither true = refl
-      neither false = refl
+      ap (λ (u : Bool). pick t u false) e ∙ pick-neither t
 
   base-fits : o .«object_data_length» ≤ 0xFFFFFF → (x : Dimensions) → allFit (odsBase o x) ≡ allFit (dimensionFields x)
   base-fits h x =
@@ -127,10 +120,38 @@ module _ (o : Ods) (hi : o .«object_id» < 65536) (hv : o .«object_version_num
       (λ i. pick (dimensionsWhere (isFirst (fragmentOf (o .«last_in_sequence_flag»))) (q i)) (allFit (odsBase o (q i))) false)
       ∙ ap (λ (u : Bool). pick (dimensionsWhere (isFirst (fragmentOf (o .«last_in_sequence_flag»))) x) u false) (base-fits h x)
 
--- a test that is its own answer
-pub pick-self : (t : Bool) → t ≡ pick t true false
-pick-self true = refl
-pick-self false = refl
+module _ (o : Ods) where
+  -- how many bytes the numbers take, by the dimensions
+  pub ods-size-at : {x : Dimensions} → o .dimensions ≡ x → length (written (odsFields o)) ≡ length (written (odsBase o x))
+  ods-size-at q = ap (λ (x : Dimensions). length (written (odsBase o x))) q
+
+  pub ods-size-most : length (written (odsFields o)) ≤ 11
+  ods-size-most = most (o .dimensions)
+    where
+      most : (x : Dimensions) → length (written (odsBase o x)) ≤ 11
+      most Absent = omega arith
+      most (Present w h) = omega arith
+
+  module _ (m : List ℕ) {a b c e : List ℕ} (ea : a ≡ sets m 13 (bytesOf 2 (o .«object_id»))) (eb : b ≡ sets a 15 (bytesOf 1 (o .«object_version_number»)))
+      (ec : c ≡ sets b 16 (bytesOf 1 (o .«last_in_sequence_flag»))) (ee : e ≡ sets c 17 (bytesOf 3 (o .«object_data_length»))) where
+    -- the numbers before the dimensions, stored one after another
+    base-stored : e ≡ sets m 13 (written (odsBase o Absent))
+    base-stored =
+        let fs : List Field = (2, o .«object_id») ∷ [] in
+        let gs : List Field = (2, o .«object_id») ∷ (1, o .«object_version_number») ∷ [] in
+        let hs : List Field = (2, o .«object_id») ∷ (1, o .«object_version_number») ∷ (1, o .«last_in_sequence_flag») ∷ [] in
+        wrote m 13 hs 3 (o .«object_data_length»)
+        (wrote m 13 gs 1 (o .«last_in_sequence_flag») (wrote m 13 fs 1 (o .«object_version_number») ea refl eb) refl ec)
+        refl ee
+
+    pub ods-stored : o .dimensions ≡ Absent → e ≡ sets m 13 (written (odsFields o))
+    ods-stored q = base-stored ∙ sym (ap (λ (x : Dimensions). sets m 13 (written (odsBase o x))) q)
+
+    pub ods-stored-with : (w h : ℕ) → o .dimensions ≡ Present w h → {f g : List ℕ} → f ≡ sets e 20 (bytesOf 2 w) → g ≡ sets f 22 (bytesOf 2 h)
+        → g ≡ sets m 13 (written (odsFields o))
+    ods-stored-with w h q ef eg =
+        wrote m 13 (odsBase o Absent ++ ((2, w) ∷ [])) 2 h (wrote m 13 (odsBase o Absent) 2 w base-stored refl ef) refl eg
+        ∙ sym (ap (λ (x : Dimensions). sets m 13 (written (odsBase o x))) q)
 
 module _ (o : Ods) (data′ : List ℕ) where
   pub ods-length : length (bodyBytes (ods o data′)) ≡ length (written (odsFields o)) + length data′

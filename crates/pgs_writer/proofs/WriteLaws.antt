@@ -1,31 +1,28 @@
 -- How a write ends, for fields of any kind: 35, 34, or the whole segment. Assumes nothing.
-use mathlib.Core.Path.{_≡_, refl, sym, ap, _∙_}
+use mathlib.Core.Path.{_≡_, sym, ap, _∙_}
 use mathlib.Core.Bool.{Bool, true, false}
-use mathlib.Core.List.{List, [], _∷_, _++_}
+use mathlib.Core.List.{List, _++_}
 use Prim.Native.Nat.{ℕ, _+_, _^_, _≤_, _<_}
 use native.Mathlib.Omega.{arith}
 use borrow.Author.Tests.{lt-ltb, le-ltb}
 use lib.Dec.{ltb}
 use lib.ListN.{length, length-append}
 use lib.Seq.{sets}
-use Rattle.pgs_base.specs.Outcome.{Outcome, gives, refuses, pick, Delivered}
+use Rattle.pgs_base.specs.Outcome.{gives, refuses, pick, unless, Delivered}
 use Rattle.pgs_base.proofs.Outcomes.{delivers-refusal, delivers-short, delivers-all}
-use Rattle.pgs_segment.specs.Fields.{BodyFields, SegmentFields, kindByte}
+use Rattle.pgs_segment.specs.Fields.{SegmentFields, kindByte}
 use Rattle.pgs_writer.specs.Encode.{headFields, bodyBytes, encode}
 use Rattle.pgs_writer.specs.Layout.{Field, written, allFit}
-use Rattle.pgs_writer.specs.Writable.{bodyWritable, writable, writeVerdict}
+use Rattle.pgs_writer.specs.Writable.{bodyWritable, writable}
+use Rattle.pgs_writer.proofs.FitLaws.{pick-neither}
 use Rattle.pgs_writer.proofs.LayoutLaws.{length-written}
 use Rattle.pgs_writer.proofs.PutLaws.{then-sets, sets-front}
-
-none : (t : Bool) → pick t false false ≡ false
-none true = refl
-none false = refl
 
 module _ (f : SegmentFields) where
   -- a body that cannot be written, or does not fit its size field
   pub unwritable-body : bodyWritable (f .body) ≡ false → writable f ≡ false
   unfolding writable
-  unwritable-body e = rw e (none (allFit (headFields (f .pts) (f .dts) (kindByte (f .body)) (length (bodyBytes (f .body))))))
+  unwritable-body e = rw e (pick-neither (allFit (headFields (f .pts) (f .dts) (kindByte (f .body)) (length (bodyBytes (f .body))))))
 
   pub unwritable-size : f .pts < 2 ^ 32 → f .dts < 2 ^ 32 → kindByte (f .body) < 256 → 65535 < length (bodyBytes (f .body)) → writable f ≡ false
   unfolding writable
@@ -55,13 +52,13 @@ module _ (f : SegmentFields) where
       r ∙ (then-sets o 0 (written head) (bodyBytes (f .body)) e (sym (length-written head))
       ∙ ap (λ (k : ℕ). sets o 0 (written (headFields (f .pts) (f .dts) (kindByte (f .body)) k) ++ bodyBytes (f .body))) q)
 
-  -- the three answers
-  pub write-35 : (o : List ℕ) → writable f ≡ false → Delivered (writeVerdict f) (length (encode f)) (encode f) o o (refuses 35)
+  -- the three answers, where the test t says whether the fields can be written
+  pub write-35 : (o : List ℕ) {t : Bool} → t ≡ false → Delivered (unless 35 t) (length (encode f)) (encode f) o o (refuses 35)
   write-35 o e = delivers-refusal (rw e)
 
-  pub write-34 : (o : List ℕ) → writable f ≡ true → length o < length (encode f) → Delivered (writeVerdict f) (length (encode f)) (encode f) o o (refuses 34)
+  pub write-34 : (o : List ℕ) {t : Bool} → t ≡ true → length o < length (encode f) → Delivered (unless 35 t) (length (encode f)) (encode f) o o (refuses 34)
   write-34 o e h = delivers-short (rw e) h
 
-  pub write-all : (o : List ℕ) {o′ : List ℕ} {n : ℕ} → writable f ≡ true → length (encode f) ≤ length o → n ≡ length (encode f) → o′ ≡ sets o 0 (encode f)
-      → Delivered (writeVerdict f) (length (encode f)) (encode f) o o′ (gives n)
+  pub write-all : (o : List ℕ) {o′ : List ℕ} {n : ℕ} {t : Bool} → t ≡ true → length (encode f) ≤ length o → n ≡ length (encode f) → o′ ≡ sets o 0 (encode f)
+      → Delivered (unless 35 t) (length (encode f)) (encode f) o o′ (gives n)
   write-all o e h q r = delivers-all (rw e) h q (r ∙ sets-front (encode f) o h)

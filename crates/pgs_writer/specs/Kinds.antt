@@ -11,7 +11,7 @@ use Rattle.pgs_segment.specs.declared.pds.Pds.{Pds}
 use Rattle.pgs_writer.specs.Encode.{windowFields}
 use Rattle.pgs_writer.specs.Layout.{allFit, each}
 use Rattle.pgs_writer.specs.Rows.{windowFrom, entryFrom, placementFrom, markFits}
-use Rattle.pgs_writer.specs.Writable.{writable}
+use Rattle.pgs_writer.specs.Writable.{writable, placementWritable}
 
 -- a WDS of the windows that the records stand for
 abbrev pub wdsSegment : ℕ → ℕ → List (List ℕ) → SegmentFields
@@ -40,7 +40,15 @@ otherSegment pts dts kind d = record { pts = pts; dts = dts; body = other kind d
 abbrev pub pcsSegment : ℕ → ℕ → Pcs → List (List ℕ) → SegmentFields
 pcsSegment pts dts p rows = record { pts = pts; dts = dts; body = pcs p (map placementFrom rows) }
 
--- whether such a PCS can be written: a record whose mark of a crop is neither 0 nor 1 stands for no placement, so it cannot
+-- whether a record of a placement can be written: one whose mark of a crop is neither 0 nor 1 stands for no placement
+abbrev pub placementRowFits : List ℕ → Bool
+placementRowFits r = pick (markFits r) (placementWritable (placementFrom r)) false
+
+-- and each of them
+abbrev pub placementRowsFit : List (List ℕ) → Bool
+placementRowsFit rows = pick (each markFits rows) (each placementWritable (map placementFrom rows)) false
+
+-- whether such a PCS can be written
 abbrev pub pcsRowsWritable : ℕ → ℕ → Pcs → List (List ℕ) → Bool
 pcsRowsWritable pts dts p rows = pick (each markFits rows) (writable (pcsSegment pts dts p rows)) false
 

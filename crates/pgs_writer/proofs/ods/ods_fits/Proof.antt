@@ -3,7 +3,8 @@
 use Rattle.pgs_base.specs.Fragments.{isFirst}
 use Rattle.pgs_base.specs.Outcome.{pick}
 use Rattle.pgs_segment.specs.declared.ods.Dimensions.the-variants.{Absent, Present}
-use Rattle.pgs_writer.proofs.WriteKinds.{ods-long, ods-shape, pick-self}
+use Rattle.pgs_writer.proofs.FitLaws.{pick-self}
+use Rattle.pgs_writer.proofs.WriteKinds.{ods-long, ods-shape}
 use Rattle.pgs_writer.proofs.ods.ods_fits.Statement.{statement}
 use borrow.Author.Needs.{needs}
 use mathlib.Core.Bool.{Bool, true, false, not}

@@ -11,7 +11,7 @@ use native.Mathlib.Omega.{arith}
 use Rattle.pgs_writer.proofs.wds.encode_wds.Tie as tie
 
 returns : tie.Need-returns
-returns c = write-35 (wdsSegment (c .before .before .args .pts) (c .before .before .args .dts) (now (c .before .before .args .windows))) (now (c .before .before .args .out)) (wds-many (c .before .before .args .pts) (c .before .before .args .dts) (now (c .before .before .args .windows)) (c .if1 .taken))
+returns c = write-35 (wdsSegment (c .before .before .args .pts) (c .before .before .args .dts) (now (c .before .before .args .windows))) (now (c .before .before .args .out)) (wds-many (c .before .before .args .pts) (c .before .before .args .dts) (now (c .before .before .args .windows)) (omega arith))
 
 windows-fit-requires : tie.Need-windows-fit-requires
 windows-fit-requires c κs = search needs
