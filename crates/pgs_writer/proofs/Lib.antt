@@ -1,15 +1,6 @@
-pub mod Demand3
 pub mod EachLaws
 pub mod FitLaws
-pub mod KeptBodies
-pub mod LayoutLaws
 pub mod PlacementLaws
 pub mod PutLaws
-pub mod ReadAgain
-pub mod RecordBytes
-pub mod RecordKinds
-pub mod SegmentBytes
-pub mod StreamWriteLaws
 pub mod WriteKinds
 pub mod WriteLaws
-pub mod WrittenBodies

@@ -15,11 +15,11 @@ use Rattle.pgs_segment.specs.Fields.{pcs}
 use Rattle.pgs_segment.specs.declared.pcs.CompositionObjectCrop.{CompositionObjectCrop}
 use Rattle.pgs_segment.specs.declared.pcs.Cropping.the-variants.{Uncropped, Cropped}
 use Rattle.pgs_segment.specs.declared.pcs.Pcs.{Pcs}
-use Rattle.pgs_writer.specs.Encode.{bodyBytes, cropFields, placementFields, pcsFields}
+use Rattle.pgs_encoding.specs.Encode.{bodyBytes, cropFields, placementFields, pcsFields}
 use Rattle.pgs_writer.specs.Kinds.{pcsSegment, pcsRowsWritable, placementRowFits, placementRowsFit}
-use Rattle.pgs_writer.specs.Layout.{Field, written, allFit, each, recordBytes}
+use Rattle.pgs_encoding.specs.Layout.{Field, written, allFit, each, recordBytes}
 use Rattle.pgs_writer.specs.Rows.{placementFrom, cropFrom, markFits}
-use Rattle.pgs_writer.specs.Writable.{writable, placementWritable, cropWhere}
+use Rattle.pgs_encoding.specs.Writable.{writable, placementWritable, cropWhere}
 use Rattle.pgs_writer.proofs.EachLaws.{each-at}
 use Rattle.pgs_writer.proofs.FitLaws.{pick-neither, pick-self}
 use Rattle.pgs_writer.proofs.PutLaws.{then-sets, wrote}

@@ -9,8 +9,8 @@ use lib.ListN.{length, take, drop, getD, set, length-set, length-drop, length-ap
 use lib.Seq.{sets, sets-eq, length-sets, drop-cons, drop-length}
 use Rattle.pgs_base.specs.Bytes.{bytesOf}
 use Rattle.pgs_base.specs.Outcome.{accepted, laid}
-use Rattle.pgs_writer.specs.Layout.{Field, written}
-use Rattle.pgs_writer.proofs.LayoutLaws.{widths, total, length-written, written-append}
+use Rattle.pgs_encoding.specs.Layout.{Field, written}
+use Rattle.pgs_encoding.proofs.LayoutLaws.{widths, total, length-written, written-append}
 
 -- one run of stores after another is one run
 pub sets-append : {A : Type 0} (l : List A) (i : ℕ) (vs ws : List A) → sets (sets l i vs) (i + length vs) ws ≡ sets l i (vs ++ ws)

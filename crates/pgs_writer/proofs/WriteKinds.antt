@@ -18,13 +18,13 @@ use Rattle.pgs_segment.specs.declared.ods.Ods.{Ods}
 use Rattle.pgs_segment.specs.declared.pds.PaletteEntry.{PaletteEntry}
 use Rattle.pgs_segment.specs.declared.pds.Pds.{Pds}
 use Rattle.pgs_segment.specs.declared.wds.Window.{Window}
-use Rattle.pgs_writer.specs.Encode.{bodyBytes, windowFields, entryFields, pdsFields, odsFields, dimensionFields}
+use Rattle.pgs_encoding.specs.Encode.{bodyBytes, windowFields, entryFields, pdsFields, odsFields, dimensionFields}
 use Rattle.pgs_writer.specs.Kinds.{wdsSegment, windowRowsFit, pdsSegment}
-use Rattle.pgs_writer.specs.Layout.{Field, written, allFit, each, recordBytes}
+use Rattle.pgs_encoding.specs.Layout.{Field, written, allFit, each, recordBytes}
 use Rattle.pgs_writer.specs.Rows.{windowFrom, entryFrom}
-use Rattle.pgs_writer.specs.Writable.{writable, odsWritable, dimensionsWhere}
+use Rattle.pgs_encoding.specs.Writable.{writable, odsWritable, dimensionsWhere}
 use Rattle.pgs_writer.proofs.FitLaws.{pick-neither}
-use Rattle.pgs_writer.proofs.LayoutLaws.{length-written}
+use Rattle.pgs_encoding.proofs.LayoutLaws.{length-written}
 use Rattle.pgs_writer.proofs.PutLaws.{then-sets, wrote}
 use Rattle.pgs_writer.proofs.WriteLaws.{unwritable-body, unwritable-size, writable-body}
 

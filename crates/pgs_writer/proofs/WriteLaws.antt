@@ -11,11 +11,11 @@ use lib.Seq.{sets}
 use Rattle.pgs_base.specs.Outcome.{gives, refuses, pick, unless, Delivered}
 use Rattle.pgs_base.proofs.Outcomes.{delivers-refusal, delivers-short, delivers-all}
 use Rattle.pgs_segment.specs.Fields.{SegmentFields, kindByte}
-use Rattle.pgs_writer.specs.Encode.{headFields, bodyBytes, encode}
-use Rattle.pgs_writer.specs.Layout.{Field, written, allFit}
-use Rattle.pgs_writer.specs.Writable.{bodyWritable, writable}
+use Rattle.pgs_encoding.specs.Encode.{headFields, bodyBytes, encode}
+use Rattle.pgs_encoding.specs.Layout.{Field, written, allFit}
+use Rattle.pgs_encoding.specs.Writable.{bodyWritable, writable}
 use Rattle.pgs_writer.proofs.FitLaws.{pick-neither}
-use Rattle.pgs_writer.proofs.LayoutLaws.{length-written}
+use Rattle.pgs_encoding.proofs.LayoutLaws.{length-written}
 use Rattle.pgs_writer.proofs.PutLaws.{then-sets, sets-front}
 
 module _ (f : SegmentFields) where

@@ -5,8 +5,8 @@ use lib.ListN.{length}
 use Rattle.pgs_base.specs.Outcome.{Outcome, gives, refuses, Delivered}
 use Rattle.pgs_base.specs.Refusals.{numberOf}
 use Rattle.pgs_segment.specs.Fields.{SegmentFields}
-use Rattle.pgs_writer.specs.Encode.{encode}
-use Rattle.pgs_writer.specs.Writable.{writeVerdict}
+use Rattle.pgs_encoding.specs.Encode.{encode}
+use Rattle.pgs_encoding.specs.Writable.{writeVerdict}
 use Rattle.pgs_writer.specs.declared.head.WriteAnswer.{WriteAnswer}
 use Rattle.pgs_writer.specs.declared.head.WriteAnswer.the-variants.{Written, Refused}
 

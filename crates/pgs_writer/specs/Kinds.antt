@@ -8,10 +8,10 @@ use Rattle.pgs_base.specs.declared.«segment_type».SegmentType.{SegmentType}
 use Rattle.pgs_segment.specs.declared.ods.Ods.{Ods}
 use Rattle.pgs_segment.specs.declared.pcs.Pcs.{Pcs}
 use Rattle.pgs_segment.specs.declared.pds.Pds.{Pds}
-use Rattle.pgs_writer.specs.Encode.{windowFields}
-use Rattle.pgs_writer.specs.Layout.{allFit, each}
+use Rattle.pgs_encoding.specs.Encode.{windowFields}
+use Rattle.pgs_encoding.specs.Layout.{allFit, each}
 use Rattle.pgs_writer.specs.Rows.{windowFrom, entryFrom, placementFrom, markFits}
-use Rattle.pgs_writer.specs.Writable.{writable, placementWritable}
+use Rattle.pgs_encoding.specs.Writable.{writable, placementWritable}
 
 -- a WDS of the windows that the records stand for
 abbrev pub wdsSegment : ℕ → ℕ → List (List ℕ) → SegmentFields

@@ -1,10 +1,3 @@
 pub mod Answers
-pub mod Cut
-pub mod Demand3
-pub mod Encode
 pub mod Kinds
-pub mod Layout
 pub mod Rows
-pub mod StreamWrites
-pub mod Writable
-pub mod Writes

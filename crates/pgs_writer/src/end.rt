@@ -5,9 +5,9 @@ use pgs_base::refusal::Refusal;
 ghost use lib.ListN.{length};
 ghost use Rattle.pgs_base.specs.Outcome.{Delivered};
 ghost use Rattle.pgs_writer.specs.Answers.{writeOutcome};
-ghost use Rattle.pgs_writer.specs.Encode.{encode};
+ghost use Rattle.pgs_encoding.specs.Encode.{encode};
 ghost use Rattle.pgs_writer.specs.Kinds.{endSegment};
-ghost use Rattle.pgs_writer.specs.Writable.{writeVerdict};
+ghost use Rattle.pgs_encoding.specs.Writable.{writeVerdict};
 
 // Writes an END, which has no body.
 pub fn encode_end(pts: u32, dts: u32, out: &mut [u8]) -> WriteAnswer

@@ -7,8 +7,8 @@ ghost use mathlib.Core.Path.{_≡_};
 ghost use Prim.Native.Nat.{_≤_};
 ghost use lib.ListN.{length};
 ghost use lib.Seq.{sets};
-ghost use Rattle.pgs_writer.specs.Encode.{headFields};
-ghost use Rattle.pgs_writer.specs.Layout.{written};
+ghost use Rattle.pgs_encoding.specs.Encode.{headFields};
+ghost use Rattle.pgs_encoding.specs.Layout.{written};
 
 // How many bytes were written, or why none.
 pub enum WriteAnswer {

@@ -1,5 +1,4 @@
-// The writer (01, module 5): each kind of segment, and lists of writes.
-// `specs/Demand3.antt` says what is proved of a stream that is written.
+// The writer of each kind of segment (01, module 5): fields and lists in, bytes into the lent output.
 pub mod end;
 pub mod head;
 pub mod ods;
@@ -7,6 +6,4 @@ pub mod other;
 pub mod pcs;
 pub mod pds;
 mod put;
-mod rewrite;
-pub mod stream;
 pub mod wds;

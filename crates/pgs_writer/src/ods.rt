@@ -16,13 +16,13 @@ ghost use Rattle.pgs_base.specs.Outcome.{pick};
 ghost use lib.ListN.{length};
 ghost use Rattle.pgs_base.specs.Outcome.{Delivered};
 ghost use Rattle.pgs_writer.specs.Answers.{writeOutcome};
-ghost use Rattle.pgs_writer.specs.Encode.{encode};
+ghost use Rattle.pgs_encoding.specs.Encode.{encode};
 ghost use Prim.Native.Nat.{_+_, _≤_, _<_};
 ghost use lib.Seq.{sets};
-ghost use Rattle.pgs_writer.specs.Encode.{odsFields};
+ghost use Rattle.pgs_encoding.specs.Encode.{odsFields};
 ghost use Rattle.pgs_writer.specs.Kinds.{odsSegment};
-ghost use Rattle.pgs_writer.specs.Layout.{written, allFit};
-ghost use Rattle.pgs_writer.specs.Writable.{writeVerdict, odsWritable};
+ghost use Rattle.pgs_encoding.specs.Layout.{written, allFit};
+ghost use Rattle.pgs_encoding.specs.Writable.{writeVerdict, odsWritable};
 
 // Whether dimensions that are present can be written: at a first fragment alone.
 fn dimensions_fit(first: bool, width: u16, height: u16) -> bool

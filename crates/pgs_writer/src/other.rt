@@ -8,10 +8,10 @@ ghost use mathlib.Core.Path.{_≡_};
 ghost use lib.ListN.{length};
 ghost use Rattle.pgs_base.specs.Outcome.{Delivered};
 ghost use Rattle.pgs_writer.specs.Answers.{writeOutcome};
-ghost use Rattle.pgs_writer.specs.Encode.{encode};
+ghost use Rattle.pgs_encoding.specs.Encode.{encode};
 ghost use Rattle.pgs_base.specs.Kinds.{typeOf};
 ghost use Rattle.pgs_writer.specs.Kinds.{otherSegment};
-ghost use Rattle.pgs_writer.specs.Writable.{writeVerdict, unknownKind};
+ghost use Rattle.pgs_encoding.specs.Writable.{writeVerdict, unknownKind};
 
 // Whether a byte is none of the five known kinds'.
 fn is_unknown(kind: u8) -> bool

@@ -13,9 +13,9 @@ ghost use lib.ListN.{length, getD};
 ghost use lib.Seq.{sets};
 ghost use Rattle.pgs_base.specs.Outcome.{Delivered, unless};
 ghost use Rattle.pgs_writer.specs.Answers.{writeOutcome};
-ghost use Rattle.pgs_writer.specs.Encode.{encode, pcsFields, placementFields, cropFields};
+ghost use Rattle.pgs_encoding.specs.Encode.{encode, pcsFields, placementFields, cropFields};
 ghost use Rattle.pgs_writer.specs.Kinds.{pcsSegment, pcsRowsWritable, placementRowFits, placementRowsFit};
-ghost use Rattle.pgs_writer.specs.Layout.{written, recordBytes};
+ghost use Rattle.pgs_encoding.specs.Layout.{written, recordBytes};
 ghost use Rattle.pgs_writer.specs.Rows.{placementFrom, cropFrom};
 
 // Whether a record can be written: a window id and a crop flag take one byte each, and a crop is marked exactly at flag 40.

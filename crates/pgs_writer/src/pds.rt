@@ -8,15 +8,15 @@ ghost use mathlib.Core.Path.{_≡_};
 ghost use lib.ListN.{length};
 ghost use Rattle.pgs_base.specs.Outcome.{Delivered};
 ghost use Rattle.pgs_writer.specs.Answers.{writeOutcome};
-ghost use Rattle.pgs_writer.specs.Encode.{encode};
+ghost use Rattle.pgs_encoding.specs.Encode.{encode};
 ghost use mathlib.Core.List.{map};
 ghost use Prim.Native.Nat.{_+_, _≤_};
 ghost use lib.Seq.{sets};
-ghost use Rattle.pgs_writer.specs.Encode.{entryFields};
+ghost use Rattle.pgs_encoding.specs.Encode.{entryFields};
 ghost use Rattle.pgs_writer.specs.Kinds.{pdsSegment};
-ghost use Rattle.pgs_writer.specs.Layout.{written, allFit, each, recordBytes};
+ghost use Rattle.pgs_encoding.specs.Layout.{written, allFit, each, recordBytes};
 ghost use Rattle.pgs_writer.specs.Rows.{entryFrom};
-ghost use Rattle.pgs_writer.specs.Writable.{writeVerdict};
+ghost use Rattle.pgs_encoding.specs.Writable.{writeVerdict};
 
 // Whether a record can be written: its cells are bytes, so it always can.
 fn entry_fits(e: [u8; 5]) -> bool

@@ -12,11 +12,11 @@ ghost use lib.ListN.{length, getD};
 ghost use lib.Seq.{sets};
 ghost use Rattle.pgs_base.specs.Outcome.{Delivered};
 ghost use Rattle.pgs_writer.specs.Answers.{writeOutcome};
-ghost use Rattle.pgs_writer.specs.Encode.{encode, windowFields};
+ghost use Rattle.pgs_encoding.specs.Encode.{encode, windowFields};
 ghost use Rattle.pgs_writer.specs.Kinds.{wdsSegment, windowRowsFit};
-ghost use Rattle.pgs_writer.specs.Layout.{written, allFit, recordBytes};
+ghost use Rattle.pgs_encoding.specs.Layout.{written, allFit, recordBytes};
 ghost use Rattle.pgs_writer.specs.Rows.{windowFrom};
-ghost use Rattle.pgs_writer.specs.Writable.{writeVerdict};
+ghost use Rattle.pgs_encoding.specs.Writable.{writeVerdict};
 
 // Whether a record can be written: an id takes one byte.
 fn window_fits(w: [u16; 5]) -> bool

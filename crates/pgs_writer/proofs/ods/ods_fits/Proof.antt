@@ -9,8 +9,8 @@ use Rattle.pgs_writer.proofs.ods.ods_fits.Statement.{statement}
 use borrow.Author.Needs.{needs}
 use mathlib.Core.Bool.{Bool, true, false, not}
 use mathlib.Core.Path.{sym, ap, _∙_}
-use Rattle.pgs_writer.specs.Encode.{dimensionFields}
-use Rattle.pgs_writer.specs.Layout.{allFit}
+use Rattle.pgs_encoding.specs.Encode.{dimensionFields}
+use Rattle.pgs_encoding.specs.Layout.{allFit}
 use mir.Syntax.{w8, w16}
 use mir.Val.{Fits}
 use Rattle.pgs_writer.proofs.ods.ods_fits.Tie as tie

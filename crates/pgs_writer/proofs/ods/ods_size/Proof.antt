@@ -3,7 +3,7 @@
 use Rattle.pgs_segment.specs.declared.ods.Dimensions.{Dimensions}
 use Rattle.pgs_writer.proofs.WriteKinds.{odsBase}
 use Rattle.pgs_writer.proofs.ods.ods_size.Statement.{statement}
-use Rattle.pgs_writer.specs.Layout.{written}
+use Rattle.pgs_encoding.specs.Layout.{written}
 use borrow.Author.Needs.{needs}
 use lib.ListN.{length}
 use mathlib.Core.Path.{sym, ap}

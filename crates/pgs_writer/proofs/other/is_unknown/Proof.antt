@@ -1,7 +1,7 @@
 -- `is_unknown` goes by the kind that the byte names.
 -- Assumes nothing.
 use Rattle.pgs_writer.proofs.other.is_unknown.Statement.{statement}
-use Rattle.pgs_writer.specs.Writable.{unknownKind}
+use Rattle.pgs_encoding.specs.Writable.{unknownKind}
 use borrow.Author.Needs.{needs}
 use mathlib.Core.Path.{sym, ap, _∙_}
 use Rattle.pgs_writer.proofs.other.is_unknown.Tie as tie

@@ -4,7 +4,7 @@ use Prim.Native.Nat.{_-_}
 use Rattle.pgs_writer.proofs.EachLaws.{Measuring, measuring, measures, within, measured}
 use Rattle.pgs_writer.proofs.PlacementLaws.{rows-most}
 use Rattle.pgs_writer.proofs.pcs.placements_size.Statement.{statement}
-use Rattle.pgs_writer.specs.Encode.{placementFields}
+use Rattle.pgs_encoding.specs.Encode.{placementFields}
 use Rattle.pgs_writer.specs.Rows.{placementFrom}
 use borrow.Author.Needs.{scaled-fits}
 use denote.Ref.{now}

@@ -2,7 +2,7 @@
 -- Assumes nothing.
 use Rattle.pgs_writer.proofs.PlacementLaws.{crop-none, crop-some, crop-stored}
 use Rattle.pgs_writer.proofs.pcs.put_crop.Statement.{statement}
-use Rattle.pgs_writer.specs.Layout.{Field, written}
+use Rattle.pgs_encoding.specs.Layout.{Field, written}
 use borrow.Author.Needs.{needs}
 use denote.Ref.{now}
 use lib.ListN.{length}

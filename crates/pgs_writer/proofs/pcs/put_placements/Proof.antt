@@ -4,7 +4,7 @@ use Prim.Native.Nat.{_-_}
 use Rattle.pgs_writer.proofs.EachLaws.{Storing, storing, room, stores, stored}
 use Rattle.pgs_writer.proofs.PlacementLaws.{window-byte, flag-byte}
 use Rattle.pgs_writer.proofs.pcs.put_placements.Statement.{statement}
-use Rattle.pgs_writer.specs.Encode.{placementFields}
+use Rattle.pgs_encoding.specs.Encode.{placementFields}
 use Rattle.pgs_writer.specs.Rows.{placementFrom}
 use borrow.Author.Needs.{scaled-fits}
 use denote.Ref.{now}

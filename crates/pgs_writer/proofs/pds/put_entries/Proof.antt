@@ -2,9 +2,9 @@
 -- Assumes nothing.
 use Prim.Native.Nat.{_-_}
 use Rattle.pgs_writer.proofs.EachLaws.{Storing, storing, room, stores, stored}
-use Rattle.pgs_writer.proofs.LayoutLaws.{length-written}
+use Rattle.pgs_encoding.proofs.LayoutLaws.{length-written}
 use Rattle.pgs_writer.proofs.pds.put_entries.Statement.{statement}
-use Rattle.pgs_writer.specs.Encode.{entryFields}
+use Rattle.pgs_encoding.specs.Encode.{entryFields}
 use Rattle.pgs_writer.specs.Rows.{entryFrom}
 use borrow.Author.Needs.{scaled-fits}
 use denote.Ref.{now}

@@ -3,10 +3,10 @@
 use Prim.Native.Nat.{_-_}
 use Rattle.pgs_segment.proofs.RecordLaws.{first-fits}
 use Rattle.pgs_writer.proofs.EachLaws.{each-at, Storing, storing, room, stores, stored}
-use Rattle.pgs_writer.proofs.LayoutLaws.{length-written}
+use Rattle.pgs_encoding.proofs.LayoutLaws.{length-written}
 use Rattle.pgs_writer.proofs.wds.put_windows.Statement.{statement}
-use Rattle.pgs_writer.specs.Encode.{windowFields}
-use Rattle.pgs_writer.specs.Layout.{allFit}
+use Rattle.pgs_encoding.specs.Encode.{windowFields}
+use Rattle.pgs_encoding.specs.Layout.{allFit}
 use Rattle.pgs_writer.specs.Rows.{windowFrom}
 use borrow.Author.Needs.{scaled-fits}
 use borrow.Author.Tests.{ltb-true}

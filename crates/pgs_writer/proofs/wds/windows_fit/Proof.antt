@@ -3,8 +3,8 @@
 use Prim.Native.Nat.{_-_}
 use Rattle.pgs_writer.proofs.EachLaws.{Testing, testing, passes, fails, passed}
 use Rattle.pgs_writer.proofs.wds.windows_fit.Statement.{statement}
-use Rattle.pgs_writer.specs.Encode.{windowFields}
-use Rattle.pgs_writer.specs.Layout.{allFit}
+use Rattle.pgs_encoding.specs.Encode.{windowFields}
+use Rattle.pgs_encoding.specs.Layout.{allFit}
 use Rattle.pgs_writer.specs.Rows.{windowFrom}
 use borrow.Author.Needs.{scaled-fits}
 use denote.Ref.{now}
