@@ -96,7 +96,7 @@ fn read_head(bytes: &[u8]) {
             show::text(b", DTS");
             show::number(head.dts as u64);
             show::text(b", kind");
-            show::number(head.segment_type as u64);
+            show::byte(head.segment_type);
             show::text(b", used");
             show::number(s.used as u64);
         }

@@ -13,7 +13,7 @@ pub(crate) fn number(n: u64) {
     io::print_decimal(STDOUT_FILENO, n);
 }
 
-fn byte(b: u8) {
+pub(crate) fn byte(b: u8) {
     text(b" ");
     io::print_hex(STDOUT_FILENO, b as u64, 2);
 }
