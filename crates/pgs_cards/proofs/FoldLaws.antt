@@ -2,18 +2,18 @@
 use mathlib.Core.Path.{_≡_, refl, sym, ap, _∙_}
 use mathlib.Core.Bool.{Bool, true, false}
 use mathlib.Core.List.{List, [], _∷_, _++_, map}
-use Prim.Native.Nat.{ℕ, _+_, _≤_, _<_}
+use Prim.Native.Nat.{ℕ, _+_, _≤_}
 use native.Mathlib.Nat.{add-assoc}
 use native.Mathlib.Omega.{arith}
 use lib.ListN.{length}
 use Rattle.pgs_base.specs.Fragments.{fragmentOf, isFirst}
-use Rattle.pgs_base.specs.Outcome.{Verdict, accepted, refused, andThen, pick}
+use Rattle.pgs_base.specs.Outcome.{accepted, andThen, pick}
 use Rattle.pgs_segment.specs.Fields.{bodyOf, numbersOf}
 use Rattle.pgs_segment.specs.Header.{ptsOf}
 use Rattle.pgs_segment.specs.OdsBody.{odsOf}
 use Rattle.pgs_segment.specs.OneSegment.{segmentType, bodyAt}
 use Rattle.pgs_segment.specs.PcsBody.{pcsOf}
-use Rattle.pgs_set.specs.Objects.{Fragment, Chain, isOds, fragmentAt, fragmentsFrom, opensChain, chainsOf, withId, idOf}
+use Rattle.pgs_set.specs.Objects.{Fragment, Chain, isOds, fragmentAt, fragmentsFrom, opensChain, chainsOf}
 use Rattle.pgs_set.specs.Sets.{DisplaySet, groupVerdict, kindVerdict, stateAfter, isPcs, isEnd, throughEnd, setsFrom}
 use Rattle.pgs_base.specs.declared.«segment_type».SegmentType.{SegmentType}
 use Rattle.pgs_base.specs.declared.«segment_type».SegmentType.the-variants.{Pds, Ods, Pcs, Wds, End, Other}

@@ -1,21 +1,21 @@
 -- How many sets a stream can have: each takes 37 bytes at least, a PCS of 24 and an END of 13. Assumes nothing.
 use mathlib.Core.Path.{_≡_, refl, sym, ap, _∙_}
-use mathlib.Core.Bool.{Bool, true, false}
-use mathlib.Core.List.{List, [], _∷_, _++_}
-use Prim.Native.Nat.{ℕ, _+_, _*_, _≤_, _<_}
+use mathlib.Core.Bool.{true, false}
+use mathlib.Core.List.{List, [], _∷_}
+use Prim.Native.Nat.{ℕ, _+_, _*_, _≤_}
 use native.Mathlib.Omega.{arith}
 use borrow.Author.Tests.{leb-true}
 use lib.Dec.{leb}
-use lib.ListN.{length, take, drop, length-append, length-take}
-use Rattle.pgs_base.specs.Outcome.{Verdict, accepted, refused, andThen, unless, pick}
-use Rattle.pgs_base.proofs.Outcomes.{first-accepts, first-holds, second-holds}
+use lib.ListN.{length, drop, length-append, length-take}
+use Rattle.pgs_base.specs.Outcome.{accepted, andThen, pick}
+use Rattle.pgs_base.proofs.Outcomes.{first-holds, second-holds}
 use Rattle.pgs_segment.specs.Fields.{bodyVerdict}
 use Rattle.pgs_segment.specs.Header.{sizeOf}
-use Rattle.pgs_segment.specs.OneSegment.{segmentType, bodyAt, usedBy}
+use Rattle.pgs_segment.specs.OneSegment.{segmentType, bodyAt}
 use Rattle.pgs_segment.specs.Stream.{readOf, streamVerdict, joined}
-use Rattle.pgs_segment.proofs.ReadingLaws.{Each, Whole, pieces-whole, pieces-joined, accepted-rest}
+use Rattle.pgs_segment.proofs.ReadingLaws.{Each, Whole, pieces-whole, pieces-joined}
 use Rattle.pgs_segment.proofs.SegmentLaws.{accepted-body}
-use Rattle.pgs_set.specs.Sets.{DisplaySet, groupVerdict, kindVerdict, stateAfter, isPcs, throughEnd, bytesIn, setsFrom, setsOf, setCount, setsVerdict}
+use Rattle.pgs_set.specs.Sets.{groupVerdict, kindVerdict, stateAfter, isPcs, throughEnd, bytesIn, setsFrom, setsOf, setCount, setsVerdict}
 use Rattle.pgs_base.specs.declared.«segment_type».SegmentType.{SegmentType}
 use Rattle.pgs_base.specs.declared.«segment_type».SegmentType.the-variants.{Pds, Ods, Pcs, Wds, End, Other}
 use Rattle.pgs_set.specs.declared.grouping.Grouping.{Grouping}

@@ -6,7 +6,7 @@ use native.Mathlib.Numerals.{add-one}
 use native.Mathlib.Omega.{arith}
 use lib.ListN.{length, drop, length-drop}
 use lib.Seq.{drop-cons}
-use Rattle.pgs_base.specs.Outcome.{Verdict, accepted, refused, Outcome, gives, refuses, outcomeOf, andThen}
+use Rattle.pgs_base.specs.Outcome.{Verdict, accepted, Outcome, gives, refuses, outcomeOf, andThen}
 use Rattle.pgs_base.proofs.Outcomes.{gave, gave-value, turned-down, gives-as, refuses-as}
 use Rattle.pgs_segment.specs.Header.{headerFields}
 use Rattle.pgs_segment.specs.Stream.{stepVerdict}

@@ -60,15 +60,15 @@ pub(crate) fn find_objects(s: &[u8], set: usize, table: &mut [[usize; 10]]) -> F
     }
 }
 
-// Tests the objects of each of the n sets of a stream that is known to be accepted, up to the first set that is refused.
-pub(crate) fn check_each(s: &[u8], n: usize, table: &mut [[usize; 10]]) -> SetsAnswer
+// Tests the objects of each of the sets of a stream that is known to be accepted, up to the first set that is refused.
+pub(crate) fn check_each(s: &[u8], count: usize, table: &mut [[usize; 10]]) -> SetsAnswer
     requires { ⌜ setsVerdict (now s) ≡ accepted ⌝ }
-    requires { ⌜ n ≡ setCount (now s) ⌝ }
-    ensures { λ r. ⌜ setsOutcome r ≡ outcomeOf (eachVerdict (length (now (table .entry))) (setsOf (now (s .entry)))) n ⌝ }
+    requires { ⌜ count ≡ setCount (now s) ⌝ }
+    ensures { λ r. ⌜ setsOutcome r ≡ outcomeOf (eachVerdict (length (now (table .entry))) (setsOf (now (s .entry)))) count ⌝ }
 {
     let mut i: usize = 0;
     let mut at: usize = 0;
-    while i < n {
+    while i < count {
         let header = header_at(s, at);
         let from = at + (13 + header.segment_size as usize);
         match find_in_set(s, from, table) {
@@ -81,5 +81,5 @@ pub(crate) fn check_each(s: &[u8], n: usize, table: &mut [[usize; 10]]) -> SetsA
             }
         }
     }
-    SetsAnswer::Sets(n)
+    SetsAnswer::Sets(count)
 }

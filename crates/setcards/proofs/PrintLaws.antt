@@ -1,12 +1,12 @@
 -- The text fits the buffer. Assumes nothing.
-use mathlib.Core.Path.{_≡_, refl, sym, ap, _∙_}
-use mathlib.Core.List.{List, _++_}
+use mathlib.Core.Path.{_≡_, sym, ap, _∙_}
+use mathlib.Core.List.{List}
 use Prim.Native.Nat.{ℕ, _≤_}
 use native.Mathlib.Omega.{arith}
 use borrow.Author.Tests.{le-leb}
 use lib.ListN.{length, take, drop, length-append}
 use lib.Seq.{length-take-le}
-use Rattle.pgs_base.specs.Outcome.{Verdict, accepted, refused, Outcome, gives, refuses, laid, unless, Delivered}
+use Rattle.pgs_base.specs.Outcome.{Verdict, accepted, refused, gives, refuses, laid, unless, Delivered}
 use Rattle.pgs_base.proofs.Outcomes.{delivered, delivered-value, delivered-refusal}
 use Rattle.pgs_cards.specs.Reports.{inputLimit, reportOf}
 use Rattle.pgs_cards.proofs.ReportLaws.{report-short}

@@ -5,7 +5,7 @@ use Rattle.pgs_base.specs.Fragments.{isFirst}
 use Rattle.pgs_base.specs.Outcome.{pick}
 use mathlib.Core.Bool.{Bool}
 use Prim.Native.Nat.{ℕ}
-use mathlib.Core.Path.{_≡_, sym, ap, _∙_}
+use mathlib.Core.Path.{sym, ap, _∙_}
 use Rattle.pgs_cards.proofs.card.opened_by.Statement.{statement}
 use Rattle.pgs_cards.proofs.card.opened_by.Tie as tie
 

@@ -5,7 +5,7 @@ use Rattle.pgs_cards.proofs.FillLaws.{Writing, answer-at, writing, writ
 use Rattle.pgs_segment.specs.OneSegment.{segmentOutcome}
 use Prim.Native.Nat.{_+_, _-_}
 use denote.Ref.{now}
-use lib.ListN.{length, take, drop, length-take, length-drop}
+use lib.ListN.{length, drop, length-take, length-drop}
 use mathlib.Core.Path.{sym, ap, _∙_}
 use native.Mathlib.Omega.{arith}
 use Rattle.pgs_cards.proofs.cards.fill_lines.Statement.{statement}

@@ -1,10 +1,7 @@
 -- `fill_hex` goes from the last digit to the first: the loop keeps `Filling`.
 -- Assumes nothing.
-use borrow.Author.Needs.{needs}
 use Rattle.pgs_cards.proofs.HexLaws.{Filling, filling, fills-on, filled-all}
-use Prim.Native.Nat.{_-_}
 use denote.Ref.{now}
-use native.Mathlib.Nat.{mod-lt}
 use native.Mathlib.Omega.{arith}
 use Rattle.pgs_cards.proofs.line.fill_hex.Statement.{statement}
 use Rattle.pgs_cards.proofs.line.fill_hex.Tie as tie

@@ -3,7 +3,6 @@
 use borrow.Author.Needs.{needs}
 use Rattle.pgs_cards.proofs.LineLaws.{part-filled}
 use denote.Ref.{now}
-use native.Mathlib.Omega.{arith}
 use Rattle.pgs_cards.proofs.line.put_hex.Statement.{statement}
 use Rattle.pgs_cards.proofs.line.put_hex.Tie as tie
 

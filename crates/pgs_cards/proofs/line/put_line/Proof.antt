@@ -4,7 +4,7 @@ use borrow.Author.Needs.{needs}
 use Rattle.pgs_cards.proofs.LineLaws.{line-written}
 use denote.Ref.{now}
 use lib.ListN.{length-set}
-use mathlib.Core.Path.{_≡_, _∙_}
+use mathlib.Core.Path.{_∙_}
 use native.Mathlib.Omega.{arith}
 use Rattle.pgs_cards.proofs.line.put_line.Statement.{statement}
 use Rattle.pgs_cards.proofs.line.put_line.Tie as tie

@@ -8,7 +8,6 @@ use lib.Seq.{take-length}
 use mathlib.Core.List.{List, _++_}
 use mathlib.Core.Path.{refl, ap, _∙_}
 use Prim.Native.Nat.{ℕ}
-use native.Mathlib.Omega.{arith}
 use Rattle.pgs_cards.proofs.report.put_text.Statement.{statement}
 use Rattle.pgs_cards.proofs.report.put_text.Tie as tie
 

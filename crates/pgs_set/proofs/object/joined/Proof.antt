@@ -8,7 +8,7 @@ use Rattle.pgs_set.specs.Objects.{objectsOf, objectsVerdictWithin}
 use Rattle.pgs_set.specs.Tables.{foundOutcome}
 use lib.ListN.{length}
 use denote.Ref.{now}
-use mathlib.Core.Path.{sym, ap, _∙_}
+use mathlib.Core.Path.{ap}
 use native.Mathlib.Omega.{arith}
 use Rattle.pgs_set.proofs.object.joined.Statement.{statement}
 use Rattle.pgs_set.proofs.object.joined.Tie as tie

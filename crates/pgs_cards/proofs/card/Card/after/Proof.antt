@@ -3,7 +3,7 @@
 use borrow.Author.Needs.{needs}
 use Rattle.pgs_cards.proofs.FoldLaws.{opened-few}
 use Rattle.pgs_cards.specs.Walks.{cardAfter, adding}
-use mathlib.Core.Path.{_≡_, sym, ap, _∙_}
+use mathlib.Core.Path.{sym, ap, _∙_}
 use native.Mathlib.Omega.{arith}
 use Rattle.pgs_cards.proofs.card.Card.after.Statement.{statement}
 use Rattle.pgs_cards.proofs.card.Card.after.Tie as tie
