@@ -10,8 +10,8 @@
  * A list is an array of records. A record is an array of numbers, its cells named by the constants below.
  * The length of a list counts records, not cells and not bytes; that of a buffer counts bytes. A list or buffer may
  * be longer than is needed, and one that is exactly long enough is accepted. One too short is PGS_BUFFER_TOO_SMALL,
- * which is given only where no other refusal is. The input is only read. Nothing is allocated and nothing is kept
- * after the call.
+ * which is given only where no other refusal is; pgs_write_segments alone takes any buffer, and says how many writes
+ * fit. The input is only read. Nothing is allocated and nothing is kept after the call.
  *
  * What the caller owes, as for any C function: every pointer is valid, aligned for its type and not NULL, also
  * where its length is 0; lengths are true; what is lent for writing overlaps neither the input nor other lent
@@ -378,7 +378,9 @@ uint8_t pgs_encode_other(uint32_t pts, uint32_t dts,
  * Writes the first segments of a stream again, one after another, `writes` of them or all if there are fewer. Each is
  * written from the fields that were read, so without the bytes after its last counted record, and begins where the
  * last accepted one ended. A write that does not fit in what is left of the buffer is refused by itself: it changes
- * nothing, and the next is tried. accepted gets the number of accepted writes, written the bytes that they take.
+ * nothing, and the next is tried. accepted gets the number of accepted writes, written the bytes that they take. The
+ * answer 0 says that the stream was read: all segments are written where accepted is their number. A buffer as long as
+ * the stream always suffices.
  * Refusals: 1 to 6, of the stream's first segment that is refused; then nothing changes.
  */
 uint8_t pgs_write_segments(const uint8_t *stream, size_t stream_length,

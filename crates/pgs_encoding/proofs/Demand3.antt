@@ -1,4 +1,4 @@
--- The customer's third demand, proved: `same-fields-same-cut` and `writes-of-a-stream`. Assumes nothing.
+-- The customer's third demand, proved: `same-fields-same-cut`, `writes-of-a-stream`, `whole-stream`, `begins-there`. Assumes nothing.
 use mathlib.Core.Path.{_≡_, refl, sym, ap, _∙_, subst}
 use mathlib.Core.Bool.{Bool, true, false}
 use mathlib.Core.List.{List, [], _∷_, _++_, map, append-assoc, append-nil}
@@ -7,8 +7,8 @@ use native.Mathlib.Nat.{zero-add}
 use native.Mathlib.Omega.{arith}
 use borrow.Author.Tests.{leb-true, leb-false, le-leb, lt-leb}
 use lib.Dec.{leb}
-use lib.ListN.{length, take, drop, getD, replicate, length-append, length-drop, length-take, take-append-drop}
-use lib.Seq.{take-at, drop-at, length-take-le, drop-drop}
+use lib.ListN.{length, take, drop, getD, replicate, length-append, length-drop, length-take, length-map, take-append-drop}
+use lib.Seq.{take-at, drop-at, take-all, take-take, length-take-le, drop-drop}
 use Rattle.pgs_base.specs.Bytes.{Bytes}
 use Rattle.pgs_base.specs.Outcome.{Verdict, accepted, refused, isAccepted, unless, needing, laid, delivery, pick}
 use Rattle.pgs_base.proofs.Digits.{bytes-drop, bytes-take}
@@ -20,7 +20,7 @@ use Rattle.pgs_segment.proofs.ReadingLaws.{Each, Whole, own-fields, pieces-whol
 use Rattle.pgs_segment.proofs.RecordLaws.{first-fits, rest-fits}
 use Rattle.pgs_segment.proofs.StreamLaws.{read-on, read-stops, step-accepted}
 use Rattle.pgs_encoding.specs.Cut.{cutSegment, cutStream}
-use Rattle.pgs_encoding.specs.Demand3.{Accepted, SameFieldsSameCut, acceptedOf, begin, WritesOf, WritesOfAStream}
+use Rattle.pgs_encoding.specs.Demand3.{Accepted, SameFieldsSameCut, acceptedOf, begin, WritesOf, WritesOfAStream, WholeStream, BeginsThere}
 use Rattle.pgs_encoding.specs.Encode.{encode}
 use Rattle.pgs_encoding.specs.Layout.{each}
 use Rattle.pgs_encoding.specs.Writable.{writable}
@@ -264,3 +264,28 @@ writes-of-a-stream s a n o =
     let c = sym cs in
     let r = sym same in
     subst (λ (x : List (List ℕ) × Written). WritesOf (x .0) o (x .1)) (λ i. (c i, r i)) (writes-of (map encode fs) o)
+
+-- all the segments
+pub whole-stream : WholeStream
+whole-stream s a o h =
+    let xs = readOf s .pieces in
+    let c = take-all (length xs) (map cutSegment xs) (rw length-map (omega arith)) in
+    let f = take-all (length xs) (streamFields s) (rw length-map (omega arith)) in
+    let w = rw (c, f) at (writes-of-a-stream s a (length xs) o) in
+    (w .whole h .0 ∙ ap (λ (k : ℕ). replicate k accepted) (length-map xs cutSegment), w .whole h .1)
+
+-- a shorter list of writes begins as a longer one
+fewer : (fs : List SegmentFields) (a : ℕ) (o : List ℕ) (i : ℕ) → run (take i fs) a o .answers ≡ take i (run fs a o .answers)
+fewer fs a o zero = refl
+fewer [] a o (suc i) = refl
+fewer (f ∷ fs) a o (suc i) =
+    ap (λ (vs : List Verdict). writeInto f (drop a o) ∷ vs)
+    (fewer fs (a + movedBy (writeInto f (drop a o)) (length (encode f))) (take a o ++ laid (writeInto f (drop a o)) (encode f) (drop a o)) i)
+
+pub begins-there : BeginsThere
+begins-there s a n i h o =
+    let cs = map cutSegment (readOf s .pieces) in
+    let vs : run (take i (streamFields s)) 0 o .answers ≡ take i (run (take n (streamFields s)) 0 o .answers)
+    = ap (λ (fs : List SegmentFields). run fs 0 o .answers) (sym (take-take i n (streamFields s) h)) ∙ fewer (take n (streamFields s)) 0 o i in
+    let es = sym (take-take i n cs h) in
+    writes-of-a-stream s a i o .position ∙ (λ j. length (joined (acceptedOf (vs j) (es j))))

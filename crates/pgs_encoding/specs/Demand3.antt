@@ -8,7 +8,7 @@ use lib.Dec.{leb}
 use lib.ListN.{length, take, drop, getD, replicate}
 use Rattle.pgs_base.specs.Bytes.{Bytes}
 use Rattle.pgs_base.specs.Outcome.{Verdict, accepted, refused, unless}
-use Rattle.pgs_segment.specs.Stream.{readOf, streamVerdict, streamFields, joined}
+use Rattle.pgs_segment.specs.Stream.{readOf, streamVerdict, streamFields, segmentCount, joined}
 use Rattle.pgs_encoding.specs.Cut.{cutSegment, cutStream}
 use Rattle.pgs_encoding.specs.Writes.{Written, run}
 
@@ -54,3 +54,17 @@ abbrev pub WritesOfAStream : Type 0
 WritesOfAStream =
     (s : List ℕ) → Accepted s → (n : ℕ) (o : List ℕ)
     → WritesOf (take n (map cutSegment (readOf s .pieces))) o (run (take n (streamFields s)) 0 o)
+
+-- the last clause by the cut stream itself: "with room for the cut stream, writing all the segments gives it"
+abbrev pub WholeStream : Type 0
+WholeStream =
+    (s : List ℕ) → Accepted s → (o : List ℕ) → length (cutStream s) ≤ length o
+    → (run (streamFields s) 0 o .answers ≡ replicate (segmentCount s) accepted)
+    × (run (streamFields s) 0 o .output ≡ cutStream s ++ drop (length (cutStream s)) o)
+
+-- where write i begins is where the i writes before it ended
+abbrev pub BeginsThere : Type 0
+BeginsThere =
+    (s : List ℕ) → Accepted s → (n i : ℕ) → i ≤ n → (o : List ℕ)
+    → run (take i (streamFields s)) 0 o .position
+    ≡ begin (run (take n (streamFields s)) 0 o .answers) (take n (map cutSegment (readOf s .pieces))) i

@@ -23,7 +23,7 @@ use Rattle.pgs_encoding.specs.Writable.{writable, placementWritable, cropWhere}
 use Rattle.pgs_writer.proofs.EachLaws.{each-at}
 use Rattle.pgs_writer.proofs.FitLaws.{pick-neither, pick-self}
 use Rattle.pgs_writer.proofs.PutLaws.{then-sets, wrote}
-use Rattle.pgs_writer.proofs.WriteLaws.{unwritable-body, writable-body}
+use Rattle.pgs_writer.proofs.WriteLaws.{body-refused, writable-body}
 
 -- a crop is marked by 1, and exactly at the flag
 marked : (x : CompositionObjectCrop) (t : Bool) (m : ℕ) → pick (leb m 1) (cropWhere t (pick (eqb m 0) Uncropped (Cropped x))) false ≡ pick t (eqb m 1) (eqb m 0)
@@ -214,7 +214,7 @@ module _ (p d : ℕ) (n : Pcs) (rows : List (List ℕ)) where
   pcs-many ok h =
       let none : allFit (pcsFields n (length (map placementFrom rows))) ≡ false = count-fits ok ∙ le-ltb (length rows) 256 (omega arith) in
       ap (λ (t : Bool). pick (each markFits rows) t false)
-      (unwritable-body (pcsSegment p d n rows) (ap (λ (t : Bool). pick t (each placementWritable (map placementFrom rows)) false) none))
+      (body-refused (pcsSegment p d n rows) (ap (λ (t : Bool). pick t (each placementWritable (map placementFrom rows)) false) none))
       ∙ pick-neither (each markFits rows)
 
   pub pcs-unfit : placementRowsFit rows ≡ false → pcsRowsWritable p d n rows ≡ false
@@ -223,7 +223,7 @@ module _ (p d : ℕ) (n : Pcs) (rows : List (List ℕ)) where
       go : (t : Bool) → pick t (each placementWritable (map placementFrom rows)) false ≡ false → pick t (writable (pcsSegment p d n rows)) false ≡ false
       go true e =
           let s = allFit (pcsFields n (length (map placementFrom rows))) in
-          unwritable-body (pcsSegment p d n rows) (ap (λ (t : Bool). pick s t false) e ∙ pick-neither s)
+          body-refused (pcsSegment p d n rows) (ap (λ (t : Bool). pick s t false) e ∙ pick-neither s)
       go false e = refl
 
   pub pcs-writable : p < 2 ^ 32 → d < 2 ^ 32 → PcsFits n → length rows ≤ 255 → placementRowsFit rows ≡ true → pcsRowsWritable p d n rows ≡ true

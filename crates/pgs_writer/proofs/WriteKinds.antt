@@ -26,7 +26,7 @@ use Rattle.pgs_encoding.specs.Writable.{writable, odsWritable, dimensionsWhere}
 use Rattle.pgs_writer.proofs.FitLaws.{pick-neither}
 use Rattle.pgs_encoding.proofs.LayoutLaws.{length-written}
 use Rattle.pgs_writer.proofs.PutLaws.{then-sets, wrote}
-use Rattle.pgs_writer.proofs.WriteLaws.{unwritable-body, unwritable-size, writable-body}
+use Rattle.pgs_writer.proofs.WriteLaws.{body-refused, size-refused, writable-body}
 
 -- records of a fixed size
 pub fixed-length : {A : Type 0} (fields : A → List Field) (k : ℕ) → ((a : A) → length (written (fields a)) ≡ k) → (as′ : List A) → length (recordBytes fields as′) ≡ k * length as′
@@ -44,12 +44,12 @@ module _ (p d : ℕ) (rows : List (List ℕ)) where
 
   pub wds-many : 255 < length rows → writable (wdsSegment p d rows) ≡ false
   wds-many h =
-      unwritable-body (wdsSegment p d rows)
+      body-refused (wdsSegment p d rows)
       (simp (length-map rows windowFrom, le-ltb (length rows) (256 ^ 1) (omega arith)))
 
   pub wds-unfit : length rows ≤ 255 → windowRowsFit rows ≡ false → writable (wdsSegment p d rows) ≡ false
   wds-unfit h e =
-      unwritable-body (wdsSegment p d rows) (simp (length-map rows windowFrom, lt-ltb (length rows) (256 ^ 1) (omega arith), e))
+      body-refused (wdsSegment p d rows) (simp (length-map rows windowFrom, lt-ltb (length rows) (256 ^ 1) (omega arith), e))
 
   pub wds-writable : p < 2 ^ 32 → d < 2 ^ 32 → length rows ≤ 255 → windowRowsFit rows ≡ true → writable (wdsSegment p d rows) ≡ true
   wds-writable hp hd h e =
@@ -74,10 +74,10 @@ module _ (p d : ℕ) (n : Pds) (rows : List (List ℕ)) where
   pds-length = rw (length-append) (omega (arith, pds-records))
 
   pub pds-many : p < 2 ^ 32 → d < 2 ^ 32 → 13106 < length rows → writable (pdsSegment p d n rows) ≡ false
-  pds-many hp hd h = unwritable-size (pdsSegment p d n rows) hp hd (omega arith) (omega (arith, pds-length))
+  pds-many hp hd h = size-refused (pdsSegment p d n rows) hp hd (omega arith) (omega (arith, pds-length))
 
   pub pds-unfit : each (λ e. allFit (entryFields e)) (map entryFrom rows) ≡ false → writable (pdsSegment p d n rows) ≡ false
-  pds-unfit e = unwritable-body (pdsSegment p d n rows) (rw e (pick-neither (allFit (pdsFields n))))
+  pds-unfit e = body-refused (pdsSegment p d n rows) (rw e (pick-neither (allFit (pdsFields n))))
 
   pub pds-writable : p < 2 ^ 32 → d < 2 ^ 32 → n .«palette_id» < 256 → n .«palette_version_number» < 256 → length rows ≤ 13106
       → each (λ e. allFit (entryFields e)) (map entryFrom rows) ≡ true → writable (pdsSegment p d n rows) ≡ true

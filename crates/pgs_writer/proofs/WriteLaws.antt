@@ -20,13 +20,13 @@ use Rattle.pgs_writer.proofs.PutLaws.{then-sets, sets-front}
 
 module _ (f : SegmentFields) where
   -- a body that cannot be written, or does not fit its size field
-  pub unwritable-body : bodyWritable (f .body) ≡ false → writable f ≡ false
+  pub body-refused : bodyWritable (f .body) ≡ false → writable f ≡ false
   unfolding writable
-  unwritable-body e = rw e (pick-neither (allFit (headFields (f .pts) (f .dts) (kindByte (f .body)) (length (bodyBytes (f .body))))))
+  body-refused e = rw e (pick-neither (allFit (headFields (f .pts) (f .dts) (kindByte (f .body)) (length (bodyBytes (f .body))))))
 
-  pub unwritable-size : f .pts < 2 ^ 32 → f .dts < 2 ^ 32 → kindByte (f .body) < 256 → 65535 < length (bodyBytes (f .body)) → writable f ≡ false
+  pub size-refused : f .pts < 2 ^ 32 → f .dts < 2 ^ 32 → kindByte (f .body) < 256 → 65535 < length (bodyBytes (f .body)) → writable f ≡ false
   unfolding writable
-  unwritable-size p d k h =
+  size-refused p d k h =
       simp
       (lt-ltb (f .pts) (256 ^ 4) p, lt-ltb (f .dts) (256 ^ 4) d, lt-ltb (kindByte (f .body)) (256 ^ 1) k, le-ltb (length (bodyBytes (f .body))) (256 ^ 2) (omega arith))
 

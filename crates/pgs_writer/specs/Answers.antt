@@ -25,6 +25,6 @@ abbrev pub writesAccepted : WriteAnswer → ℕ
 writesAccepted (Written n) = 1
 writesAccepted (Refused r) = 0
 
--- what a write of fields promises. 01, module 5: "a refused write changes nothing"
+-- what a write of fields promises. 01: "A refused call changes nothing"
 abbrev pub Wrote : SegmentFields → List ℕ → List ℕ → WriteAnswer → Type 0
 Wrote f before after r = Delivered (writeVerdict f) (length (encode f)) (encode f) before after (writeOutcome r)

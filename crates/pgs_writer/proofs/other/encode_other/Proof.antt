@@ -1,6 +1,6 @@
 -- `encode_other` tests the size and the kind, then the room, then stores head and data.
 -- Assumes nothing.
-use Rattle.pgs_writer.proofs.WriteLaws.{unwritable-body, unwritable-size, writable-body, encode-size, encoded, write-35, write-34, write-all}
+use Rattle.pgs_writer.proofs.WriteLaws.{body-refused, size-refused, writable-body, encode-size, encoded, write-35, write-34, write-all}
 use Rattle.pgs_writer.proofs.other.encode_other.Statement.{statement}
 use Rattle.pgs_writer.specs.Kinds.{otherSegment}
 use borrow.Author.Needs.{needs}
@@ -10,7 +10,7 @@ use native.Mathlib.Omega.{arith}
 use Rattle.pgs_writer.proofs.other.encode_other.Tie as tie
 
 returns : tie.Need-returns
-returns c = write-35 (otherSegment (c .before .before .before .args .pts) (c .before .before .before .args .dts) (c .before .before .before .args .kind) (now (c .before .before .before .args .«data»))) (now (c .before .before .before .args .out)) (unwritable-size (otherSegment (c .before .before .before .args .pts) (c .before .before .before .args .dts) (c .before .before .before .args .kind) (now (c .before .before .before .args .«data»))) (c .before .before .before .fits .pts .fits) (c .before .before .before .fits .dts .fits) (c .before .before .before .fits .kind .fits) (c .if1 .taken))
+returns c = write-35 (otherSegment (c .before .before .before .args .pts) (c .before .before .before .args .dts) (c .before .before .before .args .kind) (now (c .before .before .before .args .«data»))) (now (c .before .before .before .args .out)) (size-refused (otherSegment (c .before .before .before .args .pts) (c .before .before .before .args .dts) (c .before .before .before .args .kind) (now (c .before .before .before .args .«data»))) (c .before .before .before .fits .pts .fits) (c .before .before .before .fits .dts .fits) (c .before .before .before .fits .kind .fits) (c .if1 .taken))
 
 is-unknown-requires : tie.Need-is-unknown-requires
 is-unknown-requires c κs = search needs
@@ -40,7 +40,7 @@ returns-3 : tie.Need-returns-3
 returns-3 c = write-all (otherSegment (c .before .before .before .before .before .before .before .before .before .before .before .before .before .before .args .pts) (c .before .before .before .before .before .before .before .before .before .before .before .before .before .before .args .dts) (c .before .before .before .before .before .before .before .before .before .before .before .before .before .before .args .kind) (now (c .before .before .before .before .before .before .before .before .before .before .before .before .before .before .args .«data»))) (now (c .before .before .before .before .before .before .before .before .before .before .before .before .before .before .args .out)) (writable-body (otherSegment (c .before .before .before .before .before .before .before .before .before .before .before .before .before .before .args .pts) (c .before .before .before .before .before .before .before .before .before .before .before .before .before .before .args .dts) (c .before .before .before .before .before .before .before .before .before .before .before .before .before .before .args .kind) (now (c .before .before .before .before .before .before .before .before .before .before .before .before .before .before .args .«data»))) (c .before .before .before .before .before .before .before .before .before .before .before .before .before .before .fits .pts .fits) (c .before .before .before .before .before .before .before .before .before .before .before .before .before .before .fits .dts .fits) (c .before .before .before .before .before .before .before .before .before .before .before .before .before .before .fits .kind .fits) (c .before .before .before .before .before .before .before .before .before .before .before .if1 .left) (sym (c .before .before .before .before .before .before .before .before .before .before .is-unknown .ensures) ∙ c .before .before .before .before .before .before .before .before .before .if2 .taken)) (omega (arith, encode-size (otherSegment (c .before .before .before .before .before .before .before .before .before .before .before .before .before .before .args .pts) (c .before .before .before .before .before .before .before .before .before .before .before .before .before .before .args .dts) (c .before .before .before .before .before .before .before .before .before .before .before .before .before .before .args .kind) (now (c .before .before .before .before .before .before .before .before .before .before .before .before .before .before .args .«data»))), c .before .before .before .before .before .before .before .before .if3 .left)) (omega (arith, encode-size (otherSegment (c .before .before .before .before .before .before .before .before .before .before .before .before .before .before .args .pts) (c .before .before .before .before .before .before .before .before .before .before .before .before .before .before .args .dts) (c .before .before .before .before .before .before .before .before .before .before .before .before .before .before .args .kind) (now (c .before .before .before .before .before .before .before .before .before .before .before .before .before .before .args .«data»))))) (encoded (otherSegment (c .before .before .before .before .before .before .before .before .before .before .before .before .before .before .args .pts) (c .before .before .before .before .before .before .before .before .before .before .before .before .before .before .args .dts) (c .before .before .before .before .before .before .before .before .before .before .before .before .before .before .args .kind) (now (c .before .before .before .before .before .before .before .before .before .before .before .before .before .before .args .«data»))) (now (c .before .before .before .before .before .before .before .before .before .before .before .before .before .before .args .out)) refl (c .before .before .before .before .before .before .put-head .ensures) (c .before .before .put-data .ensures))
 
 returns-4 : tie.Need-returns-4
-returns-4 c = write-35 (otherSegment (c .before .before .before .before .before .args .pts) (c .before .before .before .before .before .args .dts) (c .before .before .before .before .before .args .kind) (now (c .before .before .before .before .before .args .«data»))) (now (c .before .before .before .before .before .args .out)) (unwritable-body (otherSegment (c .before .before .before .before .before .args .pts) (c .before .before .before .before .before .args .dts) (c .before .before .before .before .before .args .kind) (now (c .before .before .before .before .before .args .«data»))) (sym (c .before .is-unknown .ensures) ∙ c .if2 .left))
+returns-4 c = write-35 (otherSegment (c .before .before .before .before .before .args .pts) (c .before .before .before .before .before .args .dts) (c .before .before .before .before .before .args .kind) (now (c .before .before .before .before .before .args .«data»))) (now (c .before .before .before .before .before .args .out)) (body-refused (otherSegment (c .before .before .before .before .before .args .pts) (c .before .before .before .before .before .args .dts) (c .before .before .before .before .before .args .kind) (now (c .before .before .before .before .before .args .«data»))) (sym (c .before .is-unknown .ensures) ∙ c .if2 .left))
 
 pub encode-other-spec : {M : Type 1} → statement M
 encode-other-spec =
