@@ -1,7 +1,7 @@
 //! The layer of sets: display sets, and the objects joined from their fragments.
 
 mod examples;
-mod inputs;
+pub mod inputs;
 pub mod oracle;
 
 use crate::compare::{list_calls, same_number, Tally, Wanted};
