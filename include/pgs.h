@@ -5,7 +5,7 @@
  * Every function answers PGS_ACCEPTED (0), or the number of the refusal; docs/REFUSALS.md explains each. Only
  * pgs_ycbcr709_to_rgb, which refuses nothing, answers a colour. A refused call changes nothing: the records, the
  * lists, the buffers and the count are as they were before it. An accepted call writes the records or bytes that it
- * answers, from the front of the list or buffer, and leaves the rest as it was.
+ * answers, from the front of the list or buffer, and leaves the rest as it was; a palette is stored at its indices.
  *
  * A list is an array of records. A record is an array of numbers, its cells named by the constants below.
  * The length of a list counts records, not cells and not bytes; that of a buffer counts bytes. A list or buffer may
@@ -66,6 +66,7 @@ enum {
     PGS_PARTIAL_LAST_LINE = 31,
     PGS_LINE_COUNT_MISMATCH = 32,
     PGS_BUFFER_TOO_SMALL = 34,
+    PGS_NOT_ENCODABLE = 35,
     PGS_NO_SUCH_SET = 36
 };
 
@@ -162,6 +163,12 @@ enum {
     PGS_ODS_CELLS
 };
 typedef uint64_t pgs_ods[PGS_ODS_CELLS];
+
+/* The first seven cells of a fragment, as pgs_encode_ods takes them. */
+enum {
+    PGS_ODS_NUMBERS = PGS_ODS_HEIGHT + 1
+};
+typedef uint32_t pgs_ods_numbers[PGS_ODS_NUMBERS];
 
 /* One display set of a stream. */
 enum {
@@ -307,6 +314,60 @@ uint8_t pgs_reassemble_objects(const uint8_t *stream, size_t stream_length,
                                uint8_t *scratch, size_t scratch_length,
                                pgs_object *objects, size_t objects_length,
                                uint64_t *count);
+
+/*
+ * The functions below write one segment each to the front of the buffer out; written gets its length. The size in
+ * the head is that of the body that is written. What is written and read again gives the same fields.
+ * Refusals: 35 (PGS_NOT_ENCODABLE) for what cannot be written: over 255 placements or windows; a body over 65,535
+ * bytes; a declared length of 2^24 or more; a crop present other than exactly at the flag 0x40; dimensions present other
+ * than exactly at a first fragment (0x80 or 0xC0); an unknown kind with the byte of a known one; a cell that is too
+ * large for its field, or a mark 'present' over 1. Then 34. Where a mark 'present' is 0, the crop's or the dimensions'
+ * cells are ignored. (Strict C before C23 wants a list that is not const cast to a pointer to const.)
+ */
+uint8_t pgs_encode_pcs(uint32_t pts, uint32_t dts,
+                       const pgs_pcs *pcs,
+                       const pgs_placement *placements, size_t placements_length,
+                       uint8_t *out, size_t out_length,
+                       uint64_t *written);
+
+uint8_t pgs_encode_wds(uint32_t pts, uint32_t dts,
+                       const pgs_window *windows, size_t windows_length,
+                       uint8_t *out, size_t out_length,
+                       uint64_t *written);
+
+uint8_t pgs_encode_pds(uint32_t pts, uint32_t dts,
+                       const pgs_pds *pds,
+                       const pgs_entry *entries, size_t entries_length,
+                       uint8_t *out, size_t out_length,
+                       uint64_t *written);
+
+uint8_t pgs_encode_ods(uint32_t pts, uint32_t dts,
+                       const pgs_ods_numbers *ods,
+                       const uint8_t *data, size_t data_length,
+                       uint8_t *out, size_t out_length,
+                       uint64_t *written);
+
+uint8_t pgs_encode_end(uint32_t pts, uint32_t dts,
+                       uint8_t *out, size_t out_length,
+                       uint64_t *written);
+
+uint8_t pgs_encode_other(uint32_t pts, uint32_t dts,
+                         uint8_t kind,
+                         const uint8_t *data, size_t data_length,
+                         uint8_t *out, size_t out_length,
+                         uint64_t *written);
+
+/*
+ * Writes the first segments of a stream again, one after another, `writes` of them or all if there are fewer. Each is
+ * written from the fields that were read, so without the bytes after its last counted record, and begins where the
+ * last accepted one ended. A write that does not fit in what is left of the buffer is refused by itself: it changes
+ * nothing, and the next is tried. accepted gets the number of accepted writes, written the bytes that they take.
+ * Refusals: 1 to 6, of the stream's first segment that is refused; then nothing changes.
+ */
+uint8_t pgs_write_segments(const uint8_t *stream, size_t stream_length,
+                           uint64_t writes,
+                           uint8_t *out, size_t out_length,
+                           uint64_t *accepted, uint64_t *written);
 
 #ifdef __cplusplus
 }

@@ -5,3 +5,4 @@ pub mod bitmap;
 pub mod color;
 pub mod segments;
 pub mod sets;
+pub mod writing;

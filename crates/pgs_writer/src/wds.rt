@@ -51,7 +51,7 @@ fn put_window(out: &mut [u8], at: usize, w: [u16; 5])
     put_u16(out, at + 7, w[4]);
 }
 
-// Stores the windows from place `at` on.
+// Stores the windows from place `first` on.
 fn put_windows(out: &mut [u8], first: usize, windows: &[[u16; 5]])
     requires { ⌜ windowRowsFit (now windows) ≡ true ⌝ }
     requires { ⌜ first + length (recordBytes windowFields (map windowFrom (now windows))) ≤ length (now out) ⌝ }

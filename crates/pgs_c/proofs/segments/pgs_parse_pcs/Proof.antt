@@ -3,7 +3,7 @@
 use Prim.Native.Nat.{ℕ}
 use Rattle.pgs_c.proofs.CallLaws.{list-refused, list-accepted, down, up, value, stays, turns}
 use Rattle.pgs_c.proofs.segments.pgs_parse_pcs.Statement.{statement}
-use Rattle.pgs_c.specs.Segments.{pcsCells}
+use Rattle.pgs_cells.specs.PcsCells.{pcsCells}
 use Rattle.pgs_segment.specs.PcsBody.{pcsOutcome, placementCount, pcsOf}
 use Rattle.pgs_segment.specs.declared.pcs.Pcs.{Pcs}
 use borrow.Author.Needs.{needs}

@@ -3,7 +3,7 @@
 use Prim.Native.Nat.{ℕ}
 use Rattle.pgs_c.proofs.CallLaws.{list-refused, list-accepted, down, up, value, stays, turns}
 use Rattle.pgs_c.proofs.segments.pgs_parse_pds.Statement.{statement}
-use Rattle.pgs_c.specs.Segments.{pdsCells}
+use Rattle.pgs_cells.specs.PdsCells.{pdsCells}
 use Rattle.pgs_segment.specs.PdsBody.{pdsOutcome, entryCount, pdsOf}
 use Rattle.pgs_segment.specs.declared.pds.Pds.{Pds}
 use borrow.Author.Needs.{needs}

@@ -13,6 +13,7 @@ use Rattle.pgs_encoding.specs.Encode.{dimensionFields}
 use Rattle.pgs_encoding.specs.Layout.{allFit}
 use mir.Syntax.{w8, w16}
 use mir.Val.{Fits}
+use native.Mathlib.Omega.{arith}
 use Rattle.pgs_writer.proofs.ods.ods_fits.Tie as tie
 
 -- the numbers fit their types
@@ -26,7 +27,7 @@ flag-fits : (c : tie.Start) → Fits w8 (c .args .o .«last_in_sequence_flag»)
 flag-fits c = search needs
 
 returns : tie.Need-returns
-returns c = sym (ods-long (c .before .before .args .o) (id-fits (c .before .before) .fits) (version-fits (c .before .before) .fits) (flag-fits (c .before .before) .fits) (c .if1 .taken))
+returns c = sym (ods-long (c .before .before .args .o) (id-fits (c .before .before) .fits) (version-fits (c .before .before) .fits) (flag-fits (c .before .before) .fits) (omega arith))
 
 from-raw-requires : tie.Need-from-raw-requires
 from-raw-requires c κs = search needs

@@ -1,0 +1,3 @@
+pub mod OdsCells
+pub mod PcsCells
+pub mod PdsCells
