@@ -38,7 +38,7 @@ pub fn groups() -> Vec<Group> {
 
 /// The random streams are fewer than those of their own layers.
 fn streams(run: &mut Run, make: fn(&mut Sink)) {
-    run.compare_streams(run.streams / 10, make, "writes", check);
+    run.compare_streams(run.streams / 2, make, "writes", check);
 }
 
 fn compare(run: &mut Run, body: Body) {
@@ -152,7 +152,7 @@ fn largest(run: &mut Run) {
 
 fn random_fields(run: &mut Run) {
     let mut p = Prng::named(run.seed, "random fields");
-    for _ in 0..run.streams / 5 {
+    for _ in 0..run.streams / 2 {
         let times = (p.next() as u32, p.next() as u32);
         let fields = Fields { times, body: random_body(&mut p) };
         run.compare(Form::Bytes, "fields", &fields.to_input(), check_input);

@@ -4,6 +4,7 @@ mod examples;
 pub mod fields;
 mod inputs;
 pub mod oracle;
+mod table;
 
 use crate::compare::{same_number, Tally};
 use crate::lent::{Input, Lent, LentBytes};
