@@ -83,7 +83,7 @@ fn print_colors() {
     print_color(252, 23, 240);
 }
 
-// A palette under id 0, which the PCS names, from no entry on.
+// A palette under id 0, which the PCS names; the table starts without an entry.
 fn print_palette() {
     let mut table = [255u8; 1024];
     print_update(pgs_color::palette::clear(&mut table));

@@ -8,7 +8,7 @@ use Rattle.pgs_base.specs.Outcome.{Verdict, refused, andThen, unless, pick}
 use Rattle.pgs_bitmap.specs.RunLength.{Code, run, lineEnd, Codes, codesOf, pixelsOf}
 
 -- What reading a bitmap comes to: whether it is accepted, and the number of codes completely read and accepted. A line end is a
--- code; the code that causes a refusal is not counted.
+-- code; the code that causes a refusal is not counted. The number is what 02 asks for later; 01 asks for the verdict alone.
 pub record Reading : Type 0 where
   pub verdict : Verdict
   pub count : ℕ
@@ -33,8 +33,9 @@ atEnd width height lines column =
     (andThen (unless 31 (eqb column 0)) (unless 32 (eqb lines height)))
 
 -- Reads on with so many lines ended and so many pixels in the line that is open. A run that passes the width is 24. A line end
--- before the width is 29, one that makes the lines exceed the height 30. After the last code comes what ended the codes, then the
--- tests of the end.
+-- before the width is 29, one that makes the lines exceed the height 30. "Reading goes on past the last line to the end of the
+-- data": there a run has no room, so only "codes of length 0 there are accepted". After the last code comes what ended the codes,
+-- then the tests of the end.
 abbrev pub readFrom : (width height lines column : ℕ) → List Code → Verdict → Reading
 readFrom width height lines column [] ended = stopped (andThen ended (atEnd width height lines column))
 readFrom width height lines column (run count color ∷ codes) ended =
@@ -52,6 +53,7 @@ readOn width height lines column bytes = readFrom width height lines column (cod
 abbrev pub readingOf : List ℕ → (width height : ℕ) → Reading
 readingOf bytes width height = readOn width height 0 0 bytes
 
--- The pixels of a bitmap, row by row. Where the bitmap is accepted there are width times height of them.
+-- The pixels of a bitmap, row by row. Where the bitmap is accepted there are width times height of them (`bitmap-area` in
+-- proofs/BitmapArea.antt), so none past the last line is stored.
 abbrev pub bitmapOf : List ℕ → List ℕ
 bitmapOf bytes = pixelsOf (codesOf bytes .codes)

@@ -18,6 +18,7 @@ pub data FirstCode : Type 0 where
   found : Code → ℕ → FirstCode
   truncated : ℕ → FirstCode
 
+-- The three longer codes: "Length 0 is accepted in the last three."
 -- "40..7F and a byte b, 256·L+b pixels of 0"; 26 where b is missing
 abbrev pub longZeroRun : ℕ → List ℕ → FirstCode
 longZeroRun low [] = truncated 26
