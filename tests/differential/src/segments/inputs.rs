@@ -37,7 +37,7 @@ fn body(run: &mut Run, kind: u8, bytes: &[u8]) {
     run.compare(Form::Bytes, &command, bytes, |b, tally| check_body(kind, b, tally));
 }
 
-pub fn every_mark(to: &mut Sink) {
+fn every_mark(to: &mut Sink) {
     let mut head = plain(END, &[]);
     for mark in 0..=u16::MAX {
         head[..2].copy_from_slice(&mark.to_be_bytes());
@@ -45,7 +45,7 @@ pub fn every_mark(to: &mut Sink) {
     }
 }
 
-pub fn shortest(to: &mut Sink) {
+fn shortest(to: &mut Sink) {
     to.stream(&[]);
     for first in 0..=255 {
         to.stream(&[first]);
@@ -56,7 +56,7 @@ pub fn shortest(to: &mut Sink) {
 }
 
 /// Every announced size over 40 bytes of body.
-pub fn every_stored_size(to: &mut Sink) {
+fn every_stored_size(to: &mut Sink) {
     for kind in [PCS, WDS, PDS, ODS, END, 0x99] {
         for size in 0..=u16::MAX {
             to.stream(&segment_of_size(kind, 1, 2, size, &[0; 40]));
@@ -293,7 +293,7 @@ pub fn damaged_streams(to: &mut Sink) {
     }
 }
 
-pub fn random_streams(to: &mut Sink) {
+fn random_streams(to: &mut Sink) {
     let mut p = Prng::named(to.seed, "random streams");
     for _ in 0..to.streams / 4 {
         let mut bytes = Vec::new();

@@ -61,7 +61,7 @@ fn every(to: &mut Sink, alphabet: &[Vec<u8>], len: usize, front: &[u8], back: &[
     }
 }
 
-pub fn every_sequence(to: &mut Sink) {
+fn every_sequence(to: &mut Sink) {
     let mut alphabet = vec![pcs(7), end(), plain(WDS, &[0]), plain(PDS, &[1, 2]), plain(0x99, &[1])];
     for id in [1, 2] {
         alphabet.push(ods(id, 0, 0xC0, 5, &[0x11]));
@@ -75,7 +75,7 @@ pub fn every_sequence(to: &mut Sink) {
 }
 
 /// Fragments of two ids with declared lengths that fit and that do not, between a PCS and an END.
-pub fn every_set(to: &mut Sink) {
+fn every_set(to: &mut Sink) {
     let mut alphabet = vec![plain(0x99, &[])];
     for id in [1, 0x0100] {
         alphabet.push(ods(id, 0, 0xC0, 5, &[0x11]));
@@ -91,7 +91,7 @@ pub fn every_set(to: &mut Sink) {
     }
 }
 
-pub fn cuts(to: &mut Sink) {
+fn cuts(to: &mut Sink) {
     let mut p = Prng::named(to.seed, "cuts of sets");
     let three: Vec<u8> = (0..3).flat_map(|_| set(&mut p)).collect();
     for len in 0..=three.len() {
@@ -104,7 +104,7 @@ pub fn cuts(to: &mut Sink) {
 }
 
 /// Sets of objects with one or two fragments each, then nothing or one fragment more: new, known, or loose.
-pub fn many_objects(to: &mut Sink) {
+fn many_objects(to: &mut Sink) {
     for count in 63..=66u16 {
         for shape in 0..4 {
             let whole = |id: u16| ods(id, 1, 0xC0, 6, &id.to_be_bytes());
@@ -133,7 +133,7 @@ pub fn many_objects(to: &mut Sink) {
 }
 
 /// Full fragments, up to the largest declared length.
-pub fn large_objects(to: &mut Sink) {
+fn large_objects(to: &mut Sink) {
     let full = |id, flag, declared| ods(id, 0, flag, declared, &vec![id as u8 + flag; 65_524]);
     to.stream(&[pcs(0), full(1, 0xC0, 65_528), end()].concat());
     for middle in [0, 1, 20, 254] {
@@ -147,7 +147,7 @@ pub fn large_objects(to: &mut Sink) {
     }
 }
 
-pub fn many_sets(to: &mut Sink) {
+fn many_sets(to: &mut Sink) {
     let mut stream = Vec::new();
     for number in 0..1_000 {
         stream.extend(pcs(number * 90));
@@ -225,7 +225,7 @@ pub fn good(to: &mut Sink) {
     }
 }
 
-pub fn damaged_sets(to: &mut Sink) {
+fn damaged_sets(to: &mut Sink) {
     let mut p = Prng::named(to.seed, "damaged sets");
     for _ in 0..to.streams / 10 {
         let count = p.between(1, 2);
