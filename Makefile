@@ -1,7 +1,15 @@
 # The commands of this repository; the README says more of each.
-.PHONY: test check diff fmt
+.PHONY: cards test check diff fmt
 
-# The gate: everything proved from nothing, must-fail edits, programs, the comparison with the published Rust.
+# A line for each display set of the stream FILE. What changed since the last time is proved first.
+FILE = samples/one-set.sup
+cards:
+	@mkdir -p target
+	@rt check setcards >target/setcards.log 2>&1 || { cat target/setcards.log; exit 1; }
+	@target/bin/setcards <$(FILE)
+
+# The gate: everything proved from nothing, must-fail edits, programs, setcards on more inputs, the comparison with
+# the published Rust.
 test:
 	.ci/run
 

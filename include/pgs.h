@@ -315,6 +315,23 @@ uint8_t pgs_reassemble_objects(const uint8_t *stream, size_t stream_length,
                                pgs_object *objects, size_t objects_length,
                                uint64_t *count);
 
+/* The bytes of one card line: 34 digits and a line feed. */
+enum {
+    PGS_CARD_LINE = 35
+};
+
+/*
+ * Writes a line of text for each display set of a stream to out, if the objects of every set join; written gets the
+ * number of bytes. A line has upper-case hexadecimal digits: place of the set 8, PTS 8, composition number 4, state
+ * 2, palette id 2, number of objects 2, width 4, height 4; and a line feed. No 0 byte is written after the lines. An
+ * empty stream is accepted with 0. A buffer as long as the stream always suffices.
+ * Refusals: 1 to 6 and 8 to 15 as above; 16 to 23 as above, of the first set that is refused; 35, for a stream of
+ * more than 4,294,967,296 bytes, in which a place may have more than 8 digits; then 34.
+ */
+uint8_t pgs_cards(const uint8_t *stream, size_t stream_length,
+                  uint8_t *out, size_t out_length,
+                  uint64_t *written);
+
 /*
  * The functions below write one segment each to the front of the buffer out; written gets its length. The size in
  * the head is that of the body that is written. What is written and read again gives the same fields.

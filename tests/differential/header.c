@@ -166,6 +166,26 @@ static void more_writing(void) {
     expect("the length of two writes", written, 36);
 }
 
+/* The card line of the one set. */
+static void cards(void) {
+    static const char line[] = "0000000000000009000180000200040001\n";
+    uint8_t out[PGS_CARD_LINE + 1] = {0};
+    uint64_t written = 77;
+    size_t i;
+
+    out[PGS_CARD_LINE] = 9;
+    expect("a buffer too short for the line", pgs_cards(SETS, sizeof SETS, out, PGS_CARD_LINE - 1, &written), PGS_BUFFER_TOO_SMALL);
+    expect("cards of an unended set", pgs_cards(SETS, sizeof SETS - 13, out, sizeof out, &written), PGS_UNTERMINATED_SET);
+    expect("the bytes written by a refused call", written, 77);
+    expect("the line after a refusal", out[0], 0);
+    expect("the cards", pgs_cards(SETS, sizeof SETS, out, sizeof out, &written), PGS_ACCEPTED);
+    expect("the bytes of the cards", written, PGS_CARD_LINE);
+    for (i = 0; i < PGS_CARD_LINE; i++) {
+        expect("a byte of the line", out[i], (uint8_t)line[i]);
+    }
+    expect("the byte after the line", out[PGS_CARD_LINE], 9);
+}
+
 int main(void) {
     pgs_segment segments[5];
     pgs_pcs pcs;
@@ -207,6 +227,7 @@ int main(void) {
             (const pgs_pds *)&pds, (const pgs_entry *)&entry, ods);
     more_writing();
     sets_and_objects();
+    cards();
     pixels_and_colors(body(segments[3]), ods, pds, (const pgs_entry *)&entry);
 
     if (faults == 0) {

@@ -1,4 +1,5 @@
 pub mod Calls
+pub mod Cards
 pub mod Pixels
 pub mod Segments
 pub mod Sets

@@ -28,7 +28,7 @@ use Rattle.pgs_set.specs.Walks.{piecesAt, fragmentsLeft}
 use Rattle.pgs_set.specs.declared.chain.FragmentHead.{FragmentHead}
 
 -- a part of a front comes back with what was written, whatever its end is called
-part-back : {start whole now rest : List ℕ} (ys : List ℕ) {k n : ℕ} → Front start whole now (ys ++ rest) k → n ≡ length ys → k + n ≤ length now
+pub part-back : {start whole now rest : List ℕ} (ys : List ℕ) {k n : ℕ} → Front start whole now (ys ++ rest) k → n ≡ length ys → k + n ≤ length now
     → Front start whole (take k now ++ (ys ++ drop n (drop k now))) rest (k + n)
 part-back ys f e h = rw e (parted ys f (rw (← e) h))
 

@@ -1,5 +1,6 @@
 pub mod ChainLaws
 pub mod Choices
+pub mod EachLaws
 pub mod FindLaws
 pub mod FragmentLaws
 pub mod GroupLaws

@@ -2,28 +2,28 @@
 use mathlib.Core.Path.{_≡_, refl, sym, ap, subst, _∙_}
 use mathlib.Core.Bool.{Bool, true, false}
 use mathlib.Core.List.{List, [], _∷_, _++_, map}
-use Prim.Native.Nat.{ℕ, _+_, _-_, _≤_, _<_}
+use Prim.Native.Nat.{ℕ, suc, _+_, _-_, _≤_, _<_}
 use native.Mathlib.Omega.{arith}
 use borrow.Author.Tests.{eq-eqb, le-leb, lt-leb, lt-ltb, le-ltb}
 use lib.Dec.{ltb, eqb}
 use lib.ListN.{length, take, drop, getD, length-map}
 use lib.Seq.{length-take-le}
-use Rattle.pgs_base.specs.Outcome.{Verdict, accepted, refused, Outcome, gives, refuses, outcomeOf, andThen, unless, laid, pick}
+use Rattle.pgs_base.specs.Outcome.{Verdict, accepted, refused, Outcome, gives, refuses, outcomeOf, andThen, unless, laid, Delivered, pick}
 use Rattle.pgs_segment.specs.Header.{headerFields}
 use Rattle.pgs_segment.specs.OneSegment.{segmentType, usedBy}
 use Rattle.pgs_segment.specs.Stream.{Reading, stepVerdict}
 use Rattle.pgs_segment.proofs.StreamLaws.{read-stops}
 use Rattle.pgs_segment.specs.declared.header.SegmentHeader.{SegmentHeader}
-use Rattle.pgs_base.proofs.Outcomes.{gave, gave-value, turned-down}
+use Rattle.pgs_base.proofs.Outcomes.{gave, gave-value, turned-down, delivers-short, delivers-all}
 use Rattle.pgs_set.proofs.Choices.{pick-first, pick-second}
 use Rattle.pgs_set.proofs.FragmentLaws.{none-left, left-same, left-next}
 use Rattle.pgs_set.proofs.ListingLaws.{rows-verdict, rows-joined, rows-records}
 use Rattle.pgs_set.proofs.SetLaws.{size-read, outside-here, opens-here, set-here}
 use Rattle.pgs_set.proofs.WalkLaws.{pieces-here, piece-length}
-use Rattle.pgs_set.specs.Objects.{Fragment, Chain, isOds, fragmentAt, fragmentsFrom, idOf, opensChain, withId, joined, chainsOf, objectId, dataOf, chainsVerdict, fragmentsVerdict, verdictAfter, fragmentsOf, objectLimit, setNumber, objectsOf, objectsVerdict}
-use Rattle.pgs_set.specs.Reassembly.{copied, copiedData, joinedData, objectRows, reassembly, Reassembled}
+use Rattle.pgs_set.specs.Objects.{Fragment, Chain, isOds, fragmentAt, fragmentsFrom, idOf, opensChain, withId, joined, chainsOf, objectId, dataOf, chainsVerdict, fragmentsVerdict, verdictAfter, fragmentsOf, setNumber, objectsOf, objectsVerdictWithin}
+use Rattle.pgs_set.specs.Reassembly.{copied, copiedData, joinedData, rowsFrom, objectRows, Reassembled}
 use Rattle.pgs_set.specs.Sets.{isEnd, throughEnd, setCount, setsVerdict}
-use Rattle.pgs_set.specs.Tables.{chainRow, total, Holds, FoundChains, rowsVerdict, joinedIn, recordsFrom, rowData, rowBytes, joinedRows, Measured}
+use Rattle.pgs_set.specs.Tables.{chainRow, total, Holds, FoundChains, Rows, Gathered, rowsVerdict, joinedIn, recordsFrom, rowData, rowBytes, joinedRows, Measured}
 use Rattle.pgs_set.specs.Walks.{piecesAt, fragmentsLeft, InSet, SetStands}
 
 -- a chain's first fragment is the ODS at its place, and the fragments of its id from there on have its data
@@ -132,12 +132,32 @@ module _ {v : Verdict} {cs : List Chain} {list : List (List ℕ)} {scratch : Lis
         written = simp (e, le-leb _ _ h, le-leb _ _ q) es;
       }
 
--- how it ends, over the table that finding the chains left
+-- how finding the objects ends
+
+gathered-none : {s : List ℕ} {v : Verdict} {cs : List Chain} {table : List (List ℕ)} {k : ℕ} → v ≡ refused k → Gathered s v cs table (refuses k)
+gathered-none {k = k} e =
+    record {
+      turned = λ j q. let r : k ≡ j = cc in e ∙ ap refused r;
+      found = λ n need q. absurd (let z : _≡_ {A = ℕ} 0 1 = cc in omega arith);
+    }
+
+gathered-all : {s : List ℕ} {v : Verdict} {cs : List Chain} {table : List (List ℕ)} {n need : ℕ} → Rows s v cs table n need → Gathered s v cs table (gives (n, need))
+gathered-all {n = n} {need = need} r =
+    record {
+      turned = λ j q. absurd (let z : _≡_ {A = ℕ} 0 1 = cc in omega arith);
+      found = λ m d q.
+          let p : _≡_ {A = ℕ × ℕ} (n, need) (m, d) = cc in
+          let en : n ≡ m = ap (λ (x : ℕ × ℕ). x .0) p in
+          let ed : need ≡ d = ap (λ (x : ℕ × ℕ). x .1) p in
+          rw (en, ed) at r;
+    }
+
+-- over the table that finding the chains left
 module _ (s : List ℕ) (from : ℕ) (table table′ : List (List ℕ)) (same : length table′ ≡ length table) where
-  pub found-none : {list : List (List ℕ)} {scratch : List ℕ} {k : ℕ} → FoundChains (fragmentsLeft s from) (length s) table′ (refuses k)
-      → Reassembled (fragmentsVerdict (length table) (fragmentsLeft s from)) (chainsOf (fragmentsLeft s from)) list list scratch scratch (refuses k)
+  pub found-none : {k : ℕ} → FoundChains (fragmentsLeft s from) (length s) table′ (refuses k)
+      → Gathered s (fragmentsVerdict (length table) (fragmentsLeft s from)) (chainsOf (fragmentsLeft s from)) table′ (refuses k)
   found-none {k = k} f =
-      reassembles-refusal
+      gathered-none
       (ap (λ (v : Verdict). andThen v (chainsVerdict (chainsOf (fragmentsLeft s from))))
       (ap (λ (j : ℕ). verdictAfter j [] (fragmentsLeft s from)) (sym same) ∙ f .turned k refl))
 
@@ -148,54 +168,86 @@ module _ (s : List ℕ) (from : ℕ) (table table′ : List (List ℕ)) (same : 
     pub found-length : n ≡ length (take n table′)
     found-length = sym (length-take-le n table′ found-within)
 
-    rows : take n table′ ≡ map chainRow (chainsOf (fragmentsLeft s from))
-    rows = f .holds n refl .rows
-
-    count : n ≡ length (chainsOf (fragmentsLeft s from))
-    count = found-length ∙ ap length rows ∙ length-map (chainsOf (fragmentsLeft s from)) chainRow
+    its-rows : take n table′ ≡ map chainRow (chainsOf (fragmentsLeft s from))
+    its-rows = f .holds n refl .rows
 
     pub found-small : total (take n table′) ≤ length s
     found-small = f .small n refl
-
-    pub found-measured : Measured s (take n table′)
-    found-measured = rw rows (rows-measured s (chainsOf (fragmentsLeft s from)) (all-begin s from))
 
     -- the tests of the objects decide
     decides : fragmentsVerdict (length table) (fragmentsLeft s from) ≡ rowsVerdict (take n table′)
     decides =
         ap (λ (v : Verdict). andThen v (chainsVerdict (chainsOf (fragmentsLeft s from))))
         (ap (λ (j : ℕ). verdictAfter j [] (fragmentsLeft s from)) (sym same) ∙ f .accepts n refl)
-        ∙ sym (ap rowsVerdict rows ∙ rows-verdict (chainsOf (fragmentsLeft s from)))
+        ∙ sym (ap rowsVerdict its-rows ∙ rows-verdict (chainsOf (fragmentsLeft s from)))
 
-    pub found-refused : {list : List (List ℕ)} {scratch : List ℕ} {k : ℕ} → refuses k ≡ outcomeOf (rowsVerdict (take n table′)) (joinedIn (take n table′))
-        → Reassembled (fragmentsVerdict (length table) (fragmentsLeft s from)) (chainsOf (fragmentsLeft s from)) list list scratch scratch (refuses k)
-    found-refused e = reassembles-refusal (decides ∙ turned-down (rowsVerdict (take n table′)) (joinedIn (take n table′)) e)
+    pub found-refused : {k : ℕ} → refuses k ≡ outcomeOf (rowsVerdict (take n table′)) (joinedIn (take n table′))
+        → Gathered s (fragmentsVerdict (length table) (fragmentsLeft s from)) (chainsOf (fragmentsLeft s from)) table′ (refuses k)
+    found-refused e = gathered-none (decides ∙ turned-down (rowsVerdict (take n table′)) (joinedIn (take n table′)) e)
 
-    module _ (need : ℕ) (e : gives need ≡ outcomeOf (rowsVerdict (take n table′)) (joinedIn (take n table′))) where
-      accepts : fragmentsVerdict (length table) (fragmentsLeft s from) ≡ accepted
-      accepts = decides ∙ gave (rowsVerdict (take n table′)) (joinedIn (take n table′)) e
+    pub found-all : {need : ℕ} → gives need ≡ outcomeOf (rowsVerdict (take n table′)) (joinedIn (take n table′))
+        → Gathered s (fragmentsVerdict (length table) (fragmentsLeft s from)) (chainsOf (fragmentsLeft s from)) table′ (gives (n, need))
+    found-all e =
+        gathered-all
+        (record {
+          accepts = decides ∙ gave (rowsVerdict (take n table′)) (joinedIn (take n table′)) e;
+          within = found-within;
+          rows = its-rows;
+          small = found-small;
+          measured = rw its-rows (rows-measured s (chainsOf (fragmentsLeft s from)) (all-begin s from));
+          bytes = ap (joinedRows s) its-rows ∙ rows-data s (chainsOf (fragmentsLeft s from)) (all-begin s from);
+          joins = gave-value (rowsVerdict (take n table′)) (joinedIn (take n table′)) e;
+        })
 
-      pub found-need : need ≡ joinedIn (take n table′)
-      found-need = gave-value (rowsVerdict (take n table′)) (joinedIn (take n table′)) e
+-- how the calls over what was found end
+module _ (s : List ℕ) (v : Verdict) (cs : List Chain) (table : List (List ℕ)) (n need : ℕ) (r : Rows s v cs table n need) where
+  pub rows-length : n ≡ length (take n table)
+  rows-length = sym (length-take-le n table (r .within))
 
-      needs : need ≡ length (joinedData (chainsOf (fragmentsLeft s from)))
-      needs = found-need ∙ ap joinedIn rows ∙ rows-joined (chainsOf (fragmentsLeft s from))
+  pub rows-count : n ≡ length cs
+  rows-count = rows-length ∙ ap length (r .rows) ∙ length-map cs chainRow
 
-      pub found-few : {list : List (List ℕ)} {scratch : List ℕ} → length list < n
-          → Reassembled (fragmentsVerdict (length table) (fragmentsLeft s from)) (chainsOf (fragmentsLeft s from)) list list scratch scratch (refuses 34)
-      found-few h = reassembles-few accepts (omega (arith, count))
+  need-is : need ≡ length (joinedData cs)
+  need-is = r .joins ∙ ap joinedIn (r .rows) ∙ rows-joined cs
 
-      pub found-short : {list : List (List ℕ)} {scratch : List ℕ} → n ≤ length list → length scratch < need
-          → Reassembled (fragmentsVerdict (length table) (fragmentsLeft s from)) (chainsOf (fragmentsLeft s from)) list list scratch scratch (refuses 34)
-      found-short h q = reassembles-short accepts (omega (arith, count)) (omega (arith, needs))
+  records : recordsFrom 0 (take n table) ≡ objectRows cs
+  records = ap (recordsFrom 0) (r .rows) ∙ rows-records 0 cs
 
-      pub found-all : {list : List (List ℕ)} {scratch : List ℕ} {list′ : List (List ℕ)} {scratch′ : List ℕ} → n ≤ length list → need ≤ length scratch
-          → list′ ≡ laid accepted (recordsFrom 0 (take n table′)) list → scratch′ ≡ laid accepted (joinedRows s (take n table′)) scratch
-          → Reassembled (fragmentsVerdict (length table) (fragmentsLeft s from)) (chainsOf (fragmentsLeft s from)) list list′ scratch scratch′ (gives n)
-      found-all {list = list} {scratch = scratch} h q el es =
-          reassembles-all accepts (omega (arith, count)) (omega (arith, needs)) count
-          (el ∙ ap (λ (l : List (List ℕ)). laid accepted l list) (ap (recordsFrom 0) rows ∙ rows-records 0 (chainsOf (fragmentsLeft s from))))
-          (es ∙ ap (λ (l : List ℕ). laid accepted l scratch) (ap (joinedRows s) rows ∙ rows-data s (chainsOf (fragmentsLeft s from)) (all-begin s from)))
+  record-count : (at : ℕ) (xs : List Chain) → length (rowsFrom at xs) ≡ length xs
+  record-count at [] = refl
+  record-count at (c ∷ xs) = ap suc (record-count (at + length (copiedData c)) xs)
+
+  module _ {list : List (List ℕ)} where
+    pub lists-short : length list < n → Delivered v (length cs) (objectRows cs) list list (refuses 34)
+    lists-short h = delivers-short (r .accepts) (omega (arith, rows-count, record-count 0 cs))
+
+    pub lists-all : {list′ : List (List ℕ)} → n ≤ length list → list′ ≡ laid accepted (recordsFrom 0 (take n table)) list
+        → Delivered v (length cs) (objectRows cs) list list′ (gives n)
+    lists-all h e =
+        delivers-all (r .accepts) (omega (arith, rows-count, record-count 0 cs)) rows-count (e ∙ ap (λ (l : List (List ℕ)). laid accepted l list) records)
+
+  module _ {scratch : List ℕ} where
+    pub joins-short : length scratch < need → Delivered v (length cs) (joinedData cs) scratch scratch (refuses 34)
+    joins-short h = delivers-short (r .accepts) (omega (arith, need-is))
+
+    pub joins-all : {scratch′ : List ℕ} → need ≤ length scratch → scratch′ ≡ laid accepted (joinedRows s (take n table)) scratch
+        → Delivered v (length cs) (joinedData cs) scratch scratch′ (gives n)
+    joins-all h e =
+        delivers-all (r .accepts) (omega (arith, need-is)) rows-count (e ∙ ap (λ (l : List ℕ). laid accepted l scratch) (r .bytes))
+
+  module _ {list : List (List ℕ)} {scratch : List ℕ} where
+    pub both-few : length list < n → Reassembled v cs list list scratch scratch (refuses 34)
+    both-few h = reassembles-few (r .accepts) (omega (arith, rows-count))
+
+    pub both-short : n ≤ length list → length scratch < need → Reassembled v cs list list scratch scratch (refuses 34)
+    both-short h q = reassembles-short (r .accepts) (omega (arith, rows-count)) (omega (arith, need-is))
+
+    pub both-all : {list′ : List (List ℕ)} {scratch′ : List ℕ} → n ≤ length list → need ≤ length scratch
+        → list′ ≡ laid accepted (recordsFrom 0 (take n table)) list → scratch′ ≡ laid accepted (joinedRows s (take n table)) scratch
+        → Reassembled v cs list list′ scratch scratch′ (gives n)
+    both-all h q el es =
+        reassembles-all (r .accepts) (omega (arith, rows-count)) (omega (arith, need-is)) rows-count
+        (el ∙ ap (λ (l : List (List ℕ)). laid accepted l list) records) (es ∙ ap (λ (l : List ℕ). laid accepted l scratch) (r .bytes))
 
 -- the set of a number, where its PCS stands
 module _ (s : List ℕ) (k : ℕ) {r : ℕ} (st : SetStands s k r) where
@@ -217,13 +269,17 @@ module _ (s : List ℕ) (k : ℕ) {r : ℕ} (st : SetStands s k r) where
     unfolding objectsOf
     set-objects = ap chainsOf set-fragments
 
-    pub set-verdict : setsVerdict s ≡ accepted → k < setCount s
-        → objectsVerdict k s ≡ fragmentsVerdict objectLimit (fragmentsLeft s (r + (13 + h .«segment_size»)))
-    set-verdict a m = λ j. andThen (a j) (andThen (unless 36 (lt-ltb k (setCount s) m j)) (fragmentsVerdict objectLimit (set-fragments j)))
+    pub set-verdict : (limit : ℕ) → setsVerdict s ≡ accepted → k < setCount s
+        → objectsVerdictWithin limit k s ≡ fragmentsVerdict limit (fragmentsLeft s (r + (13 + h .«segment_size»)))
+    set-verdict limit a m = λ j. andThen (a j) (andThen (unless 36 (lt-ltb k (setCount s) m j)) (fragmentsVerdict limit (set-fragments j)))
 
 -- the refusals before
-pub no-sets : (k : ℕ) (s : List ℕ) {n : ℕ} → setsVerdict s ≡ refused n → objectsVerdict k s ≡ refused n
-no-sets k s e = ap (λ (v : Verdict). andThen v (andThen (unless 36 (ltb k (setCount s))) (fragmentsVerdict objectLimit (fragmentsOf (setNumber k s))))) e
+module _ (limit k : ℕ) (s : List ℕ) {cs : List Chain} {table : List (List ℕ)} where
+  pub no-sets : {n : ℕ} → setsVerdict s ≡ refused n → Gathered s (objectsVerdictWithin limit k s) cs table (refuses n)
+  no-sets e =
+      gathered-none
+      (ap (λ (v : Verdict). andThen v (andThen (unless 36 (ltb k (setCount s))) (fragmentsVerdict limit (fragmentsOf (setNumber k s))))) e)
 
-pub no-set : (k : ℕ) (s : List ℕ) → setsVerdict s ≡ accepted → setCount s ≤ k → objectsVerdict k s ≡ refused 36
-no-set k s a h = λ j. andThen (a j) (andThen (unless 36 (le-ltb k (setCount s) h j)) (fragmentsVerdict objectLimit (fragmentsOf (setNumber k s))))
+  pub no-set : setsVerdict s ≡ accepted → setCount s ≤ k → Gathered s (objectsVerdictWithin limit k s) cs table (refuses 36)
+  no-set a h =
+      gathered-none (λ j. andThen (a j) (andThen (unless 36 (le-ltb k (setCount s) h j)) (fragmentsVerdict limit (fragmentsOf (setNumber k s)))))

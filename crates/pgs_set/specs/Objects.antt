@@ -178,7 +178,19 @@ setNumber k s = getD (setsOf s) k noSet
 unfoldable pub objectsOf : ℕ → List ℕ → List Chain
 objectsOf k s = chainsOf (fragmentsOf (setNumber k s))
 
--- "Objects alone: 1 to 15, 36, 16 to 23, 34". 36: "set number at or past the count"
+-- "Objects alone: 1 to 15, 36, 16 to 23, 34". 36: "set number at or past the count". With a limit on the number of objects
+abbrev pub objectsVerdictWithin : ℕ → ℕ → List ℕ → Verdict
+objectsVerdictWithin limit k s =
+    andThen (setsVerdict s) (andThen (unless 36 (ltb k (setCount s))) (fragmentsVerdict limit (fragmentsOf (setNumber k s))))
+
 abbrev pub objectsVerdict : ℕ → List ℕ → Verdict
-objectsVerdict k s =
-    andThen (setsVerdict s) (andThen (unless 36 (ltb k (setCount s))) (fragmentsVerdict objectLimit (fragmentsOf (setNumber k s))))
+objectsVerdict k s = objectsVerdictWithin objectLimit k s
+
+-- the sets' objects, set by set: the first set that is refused decides
+abbrev pub eachVerdict : ℕ → List DisplaySet → Verdict
+eachVerdict limit [] = accepted
+eachVerdict limit (d ∷ ds) = andThen (fragmentsVerdict limit (fragmentsOf d)) (eachVerdict limit ds)
+
+-- whether every set's objects reassemble. "the stream's first, or else of the first set that is refused"
+abbrev pub allObjectsVerdict : List ℕ → Verdict
+allObjectsVerdict s = andThen (setsVerdict s) (eachVerdict objectLimit (setsOf s))

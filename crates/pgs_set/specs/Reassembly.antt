@@ -71,7 +71,8 @@ pub record Reassembled (verdict : Verdict) (cs : List Chain) (list list′ : Lis
 abbrev pub partOf : ℕ → ℕ → List ℕ → List ℕ
 partOf at n l = pick (leb at (length l)) (pick (leb n (length l - at)) (take n (drop at l)) []) []
 
--- the data that a record shows: of the stream where its holder is 0, of the scratch where it is 1
+-- the data that a record shows: of the stream where its holder is 0, of the scratch where it is 1. That this is the object's data,
+-- for the records and the scratch that an accepted call leaves, is the law `shown-after` of proofs/ViewLaws.antt
 abbrev pub shownBy : List ℕ → List ℕ → List ℕ → List ℕ
 shownBy stream scratch r =
     pick (eqb (getD r 4 0) 0) (partOf (getD r 5 0) (getD r 6 0) stream)

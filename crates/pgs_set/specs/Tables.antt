@@ -14,6 +14,8 @@ use Rattle.pgs_set.specs.Walks.{fragmentsLeft}
 use Rattle.pgs_set.specs.declared.chain.FragmentHead.{FragmentHead}
 use Rattle.pgs_set.specs.declared.chain.ChainsAnswer.{ChainsAnswer}
 use Rattle.pgs_set.specs.declared.chain.ChainsAnswer.the-variants.{Chains, Refused}
+use Rattle.pgs_set.specs.declared.finding.FoundAnswer.{FoundAnswer}
+use Rattle.pgs_set.specs.declared.finding.FoundAnswer.the-variants as finds
 use Rattle.pgs_set.specs.declared.listing.JoinedAnswer.{JoinedAnswer}
 use Rattle.pgs_set.specs.declared.listing.JoinedAnswer.the-variants as checks
 
@@ -144,3 +146,23 @@ joinedRows s (r ∷ rs) = rowBytes s r ++ joinedRows s rs
 abbrev pub Measured : List ℕ → List (List ℕ) → Type 0
 Measured s [] = Unit {0}
 Measured s (r ∷ rs) = (length (rowData s r) ≡ getD r 9 0) × Measured s rs
+
+-- how many objects there are, and how many bytes of a scratch they take
+abbrev pub foundOutcome : FoundAnswer → Outcome (ℕ × ℕ)
+foundOutcome (finds.Found n need) = gives (n, need)
+foundOutcome (finds.Refused r) = refuses (numberOf r)
+
+-- the first n rows of a table are those of accepted objects cs of the stream s
+pub record Rows (s : List ℕ) (v : Verdict) (cs : List Chain) (table : List (List ℕ)) (n need : ℕ) : Type 0 where
+  pub accepts : v ≡ accepted
+  pub within : n ≤ length table
+  pub rows : take n table ≡ map chainRow cs
+  pub small : total (take n table) ≤ length s
+  pub measured : Measured s (take n table)
+  pub bytes : joinedRows s (take n table) ≡ joinedData cs
+  pub joins : need ≡ joinedIn (take n table)
+
+-- finding and testing the objects cs, with this answer
+pub record Gathered (s : List ℕ) (v : Verdict) (cs : List Chain) (table : List (List ℕ)) (answer : Outcome (ℕ × ℕ)) : Type 0 where
+  pub turned : (k : ℕ) → answer ≡ refuses k → v ≡ refused k
+  pub found : (n need : ℕ) → answer ≡ gives (n, need) → Rows s v cs table n need

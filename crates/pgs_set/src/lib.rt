@@ -1,6 +1,7 @@
 mod chain;
+mod finding;
 pub mod grouping;
 mod joining;
-pub mod listing;
+mod listing;
 pub mod object;
 pub mod set;

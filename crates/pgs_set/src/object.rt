@@ -1,20 +1,25 @@
 // The objects of a display set (01, module 7).
-use crate::chain::ChainsAnswer;
-use crate::chain::find_chains;
-use crate::joining::join_objects;
-use crate::listing::JoinedAnswer;
-use crate::listing::check_chains;
-use crate::listing::list_objects;
+use crate::finding::FoundAnswer;
+use crate::finding::check_each;
+use crate::finding::find_objects;
+use crate::joining;
+use crate::listing;
 use crate::set::SetsAnswer;
 use crate::set::group_display_sets;
-use crate::set::header_at;
-use crate::set::set_place;
 use pgs_base::refusal::Refusal;
 ghost use mathlib.Core.Path.{_≡_};
 ghost use lib.ListN.{length};
-ghost use Rattle.pgs_set.specs.Objects.{chainsOf, fragmentsVerdict, objectsOf, objectsVerdict};
-ghost use Rattle.pgs_set.specs.Reassembly.{objectsOutcome, Reassembled, partOf, shownBy};
-ghost use Rattle.pgs_set.specs.Walks.{InSet, fragmentsLeft};
+ghost use Rattle.pgs_base.specs.Outcome.{outcomeOf, Delivered};
+ghost use Rattle.pgs_set.specs.Objects.{allObjectsVerdict, objectsOf, objectsVerdict, objectsVerdictWithin};
+ghost use Rattle.pgs_set.specs.Sets.{setCount, setsOutcome};
+ghost use Rattle.pgs_set.specs.Reassembly.{
+  joinedData,
+  objectRows,
+  objectsOutcome,
+  Reassembled,
+  partOf,
+  shownBy,
+};
 
 // The most objects that a set may have.
 pub const OBJECT_LIMIT: usize = 64;
@@ -25,33 +30,73 @@ pub enum ObjectsAnswer {
     Refused(Refusal),
 }
 
-// Finds, tests, lists and joins the objects of the set that is open at `from`; the table's length is the limit.
+// Finds the objects, tests both needs, then lists and joins; the table's length is the limit.
 fn reassemble(
     s: &[u8],
-    from: usize,
+    set: usize,
     table: &mut [[usize; 10]],
     scratch: &mut [u8],
     objects: &mut [[u64; 7]],
 ) -> ObjectsAnswer
-    requires { ⌜ InSet (now s) from ⌝ }
-    ensures { λ r. ⌜ Reassembled (fragmentsVerdict (length (now (table .entry))) (fragmentsLeft (now (s .entry)) from)) (chainsOf (fragmentsLeft (now (s .entry)) from)) (now (objects .entry)) (now (objects .exit)) (now (scratch .entry)) (now (scratch .exit)) (objectsOutcome r) ⌝ }
+    ensures { λ r. ⌜ Reassembled (objectsVerdictWithin (length (now (table .entry))) set (now (s .entry))) (objectsOf set (now (s .entry))) (now (objects .entry)) (now (objects .exit)) (now (scratch .entry)) (now (scratch .exit)) (objectsOutcome r) ⌝ }
 {
-    match find_chains(s, from, table) {
-        ChainsAnswer::Refused(why) => ObjectsAnswer::Refused(why),
-        ChainsAnswer::Chains(n) => match check_chains(&table[..n]) {
-            JoinedAnswer::Refused(why) => ObjectsAnswer::Refused(why),
-            JoinedAnswer::Joined(need) => {
-                if objects.len() < n {
-                    return ObjectsAnswer::Refused(Refusal::BufferTooSmall);
-                }
-                if scratch.len() < need {
-                    return ObjectsAnswer::Refused(Refusal::BufferTooSmall);
-                }
-                list_objects(&table[..n], objects);
-                join_objects(s, &table[..n], scratch);
-                ObjectsAnswer::Objects(n)
+    match find_objects(s, set, table) {
+        FoundAnswer::Refused(why) => ObjectsAnswer::Refused(why),
+        FoundAnswer::Found(n, need) => {
+            if objects.len() < n {
+                return ObjectsAnswer::Refused(Refusal::BufferTooSmall);
             }
-        },
+            if scratch.len() < need {
+                return ObjectsAnswer::Refused(Refusal::BufferTooSmall);
+            }
+            listing::list_objects(&table[..n], objects);
+            joining::join_objects(s, &table[..n], scratch);
+            ObjectsAnswer::Objects(n)
+        }
+    }
+}
+
+fn counted(s: &[u8], set: usize, table: &mut [[usize; 10]]) -> ObjectsAnswer
+    ensures { λ r. ⌜ objectsOutcome r ≡ outcomeOf (objectsVerdictWithin (length (now (table .entry))) set (now (s .entry))) (length (objectsOf set (now (s .entry)))) ⌝ }
+{
+    match find_objects(s, set, table) {
+        FoundAnswer::Refused(why) => ObjectsAnswer::Refused(why),
+        FoundAnswer::Found(n, _) => ObjectsAnswer::Objects(n),
+    }
+}
+
+fn listed(
+    s: &[u8],
+    set: usize,
+    table: &mut [[usize; 10]],
+    objects: &mut [[u64; 7]],
+) -> ObjectsAnswer
+    ensures { λ r. ⌜ Delivered (objectsVerdictWithin (length (now (table .entry))) set (now (s .entry))) (length (objectsOf set (now (s .entry)))) (objectRows (objectsOf set (now (s .entry)))) (now (objects .entry)) (now (objects .exit)) (objectsOutcome r) ⌝ }
+{
+    match find_objects(s, set, table) {
+        FoundAnswer::Refused(why) => ObjectsAnswer::Refused(why),
+        FoundAnswer::Found(count, _) => {
+            if objects.len() < count {
+                return ObjectsAnswer::Refused(Refusal::BufferTooSmall);
+            }
+            listing::list_objects(&table[..count], objects);
+            ObjectsAnswer::Objects(count)
+        }
+    }
+}
+
+fn joined(s: &[u8], set: usize, table: &mut [[usize; 10]], scratch: &mut [u8]) -> ObjectsAnswer
+    ensures { λ r. ⌜ Delivered (objectsVerdictWithin (length (now (table .entry))) set (now (s .entry))) (length (objectsOf set (now (s .entry)))) (joinedData (objectsOf set (now (s .entry)))) (now (scratch .entry)) (now (scratch .exit)) (objectsOutcome r) ⌝ }
+{
+    match find_objects(s, set, table) {
+        FoundAnswer::Refused(why) => ObjectsAnswer::Refused(why),
+        FoundAnswer::Found(n, room) => {
+            if scratch.len() < room {
+                return ObjectsAnswer::Refused(Refusal::BufferTooSmall);
+            }
+            joining::join_objects(s, &table[..n], scratch);
+            ObjectsAnswer::Objects(n)
+        }
     }
 }
 
@@ -65,24 +110,46 @@ pub fn reassemble_objects(
 ) -> ObjectsAnswer
     ensures { λ r. ⌜ Reassembled (objectsVerdict set (now (s .entry))) (objectsOf set (now (s .entry))) (now (objects .entry)) (now (objects .exit)) (now (scratch .entry)) (now (scratch .exit)) (objectsOutcome r) ⌝ }
 {
+    let mut table = [[0usize; 10]; OBJECT_LIMIT];
+    reassemble(s, set, &mut table, scratch, objects)
+}
+
+// How many objects set number `set` has. Nothing is lent.
+pub fn count_objects(s: &[u8], set: usize) -> ObjectsAnswer
+    ensures { λ r. ⌜ objectsOutcome r ≡ outcomeOf (objectsVerdict set (now (s .entry))) (length (objectsOf set (now (s .entry)))) ⌝ }
+{
+    let mut table = [[0usize; 10]; OBJECT_LIMIT];
+    counted(s, set, &mut table)
+}
+
+// Whether the objects of every set reassemble: how many sets there are, or the stream's refusal, or that of the first set that is
+// refused. Each segment is looked at a fixed number of times, however many sets there are.
+pub fn check_objects(s: &[u8]) -> SetsAnswer
+    ensures { λ r. ⌜ setsOutcome r ≡ outcomeOf (allObjectsVerdict (now (s .entry))) (setCount (now (s .entry))) ⌝ }
+{
     match group_display_sets(s) {
-        SetsAnswer::Refused(why) => ObjectsAnswer::Refused(why),
+        SetsAnswer::Refused(why) => SetsAnswer::Refused(why),
         SetsAnswer::Sets(n) => {
-            if n <= set {
-                return ObjectsAnswer::Refused(Refusal::NoSuchSet);
-            }
-            let place = set_place(s, set);
-            let header = header_at(s, place);
             let mut table = [[0usize; 10]; OBJECT_LIMIT];
-            reassemble(
-                s,
-                place + (13 + header.segment_size as usize),
-                &mut table,
-                scratch,
-                objects,
-            )
+            check_each(s, n, &mut table)
         }
     }
+}
+
+// Lists the objects of set number `set` without joining them: the records are those of `reassemble_objects`.
+pub fn list_objects(s: &[u8], set: usize, objects: &mut [[u64; 7]]) -> ObjectsAnswer
+    ensures { λ r. ⌜ Delivered (objectsVerdict set (now (s .entry))) (length (objectsOf set (now (s .entry)))) (objectRows (objectsOf set (now (s .entry)))) (now (objects .entry)) (now (objects .exit)) (objectsOutcome r) ⌝ }
+{
+    let mut table = [[0usize; 10]; OBJECT_LIMIT];
+    listed(s, set, &mut table, objects)
+}
+
+// Joins the chains of several fragments of set number `set` in the scratch, from its start, and answers how many objects it has.
+pub fn join_objects(s: &[u8], set: usize, scratch: &mut [u8]) -> ObjectsAnswer
+    ensures { λ r. ⌜ Delivered (objectsVerdict set (now (s .entry))) (length (objectsOf set (now (s .entry)))) (joinedData (objectsOf set (now (s .entry)))) (now (scratch .entry)) (now (scratch .exit)) (objectsOutcome r) ⌝ }
+{
+    let mut table = [[0usize; 10]; OBJECT_LIMIT];
+    joined(s, set, &mut table, scratch)
 }
 
 // The part of `s` from `at`, of `n` bytes; empty where it would pass the end.

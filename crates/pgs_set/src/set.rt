@@ -112,7 +112,7 @@ pub(crate) fn is_end(kind: SegmentType) -> bool
 }
 
 // The place just after the END of the set that is open at `from`.
-fn set_end(s: &[u8], from: usize) -> usize
+pub(crate) fn set_end(s: &[u8], from: usize) -> usize
     requires { ⌜ InSet (now s) from ⌝ }
     ensures { λ r. ⌜ Ends (now (s .entry)) from r ⌝ }
 {

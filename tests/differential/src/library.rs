@@ -22,6 +22,8 @@ pub type OdsCells = [u32; 7];
 pub type SetRecord = [u64; 3];
 /// Id, version, width, height, holder, place, length.
 pub type ObjectRecord = [u64; 7];
+/// A byte of a buffer.
+pub type Byte = [u8; 1];
 /// A number of records.
 pub type Count = [u64; 1];
 /// For calls that answer a list and nothing beside it.
@@ -155,6 +157,13 @@ mod c {
             objects: *mut ObjectRecord,
             objects_len: usize,
             count: *mut Count,
+        ) -> u8;
+        pub fn pgs_cards(
+            stream: *const u8,
+            stream_len: usize,
+            out: *mut Byte,
+            out_len: usize,
+            written: *mut Count,
         ) -> u8;
     }
 }
@@ -337,4 +346,9 @@ pub fn reassemble_objects(
             count.pointer(),
         )
     }
+}
+
+pub fn cards(stream: &Input, _: &mut Lent<Nothing>, out: &mut Lent<Byte>, written: &mut Lent<Count>) -> u8 {
+    let len = out.len();
+    unsafe { c::pgs_cards(stream.pointer(), stream.len(), out.pointer(), len, written.pointer()) }
 }

@@ -1,4 +1,4 @@
-//! The layer of sets: display sets, and the objects joined from their fragments.
+//! The layer of sets: display sets, the objects joined from their fragments, and the card lines.
 
 mod examples;
 pub mod inputs;
@@ -25,13 +25,17 @@ pub const LAYER: Layer = Layer {
             "pgs_reassemble_objects",
             &[0, 1, 2, 3, 4, 5, 6, 8, 9, 10, 11, 12, 13, 14, 15, 16, 17, 18, 19, 20, 21, 22, 23, 34, 36],
         ),
+        (
+            "pgs_cards",
+            &[0, 1, 2, 3, 4, 5, 6, 8, 9, 10, 11, 12, 13, 14, 15, 16, 17, 18, 19, 20, 21, 22, 23, 34],
+        ),
     ],
 };
 
 /// The added refusal of a set number at or past the count.
 const NO_SUCH_SET: u8 = 36;
 
-/// Compares the sets of a stream, and the objects of each set and of some that are not there.
+/// Compares the sets of a stream, the objects of each set and of some that are not there, and the card lines.
 pub fn check(stream: &[u8], tally: &mut Tally) -> Result<(), String> {
     let sets = oracle::sets(stream);
     let wanted = sets.as_ref().map(|sets| ([], sets.iter().map(|set| set.record).collect()));
@@ -39,12 +43,17 @@ pub fn check(stream: &[u8], tally: &mut Tally) -> Result<(), String> {
     match sets {
         Err(number) => {
             check_objects(stream, 0, &Err(number), tally)?;
-            check_objects(stream, u64::MAX, &Err(number), tally)
+            check_objects(stream, u64::MAX, &Err(number), tally)?;
+            check_cards(stream, Err(number), tally)
         }
         Ok(sets) => {
+            let mut cards = Ok(String::new());
             for (number, set) in (0..).zip(&sets) {
-                check_objects(stream, number, &oracle::objects(stream, set), tally)?;
+                let objects = oracle::objects(stream, set);
+                check_objects(stream, number, &objects, tally)?;
+                cards = cards.and_then(|lines| Ok(lines + &oracle::card(set, &objects?)));
             }
+            check_cards(stream, cards, tally)?;
             let past = sets.len() as u64;
             [past, past + (1 << 32), u64::MAX]
                 .iter()
@@ -59,6 +68,16 @@ pub fn check_sets(stream: &[u8], wanted: &WantedSets, tally: &mut Tally) -> Resu
     let input = Input::new(stream);
     list_calls(tally, "pgs_parse_display_sets", wanted, 4, |nothing, list, count| {
         library::parse_display_sets(&input, nothing, list, count)
+    })?;
+    input.holds(stream)
+}
+
+/// Compares the card lines of a stream with those wanted; a buffer is a list of single bytes.
+pub fn check_cards(stream: &[u8], wanted: Result<String, u8>, tally: &mut Tally) -> Result<(), String> {
+    let input = Input::new(stream);
+    let wanted = wanted.map(|lines| ([], lines.bytes().map(|byte| [byte]).collect()));
+    list_calls(tally, "pgs_cards", &wanted, 40, |nothing, out, written| {
+        library::cards(&input, nothing, out, written)
     })?;
     input.holds(stream)
 }

@@ -3,7 +3,7 @@
 use crate::generate::{END, ODS, PCS};
 use crate::library::{ObjectRecord, SetRecord};
 use crate::numbers::number_of;
-use published::pgs::{self, DisplaySet};
+use published::pgs::{self, DisplaySet, Pcs};
 
 /// One set of the Rust, with the library's record of it.
 pub struct Set {
@@ -72,6 +72,16 @@ pub fn objects(stream: &[u8], set: &Set) -> WantedObjects {
         objects.records.push([id as u64, version, width, height, holder, place as u64, length]);
     }
     Ok(objects)
+}
+
+/// The card line of a set.
+pub fn card(set: &Set, objects: &Objects) -> String {
+    let ([place, ..], pts, count) = (set.record, set.read.pts, objects.records.len());
+    let Pcs { width, height, composition_number, composition_state, palette_id, .. } = &set.read.pcs;
+    format!(
+        "{place:08X}{pts:08X}{composition_number:04X}{composition_state:02X}{palette_id:02X}{count:02X}\
+         {width:04X}{height:04X}\n"
+    )
 }
 
 /// Where the only fragment of an object ends in the stream.

@@ -1,0 +1,6 @@
+pub mod FillLaws
+pub mod FoldLaws
+pub mod HexLaws
+pub mod LineLaws
+pub mod ReportLaws
+pub mod RoomLaws

@@ -1,0 +1,4 @@
+pub mod card;
+pub mod cards;
+mod line;
+pub mod report;
