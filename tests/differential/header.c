@@ -2,6 +2,7 @@
 #include "pgs.h"
 
 #include <stdio.h>
+#include <string.h>
 
 static int faults = 0;
 
@@ -103,6 +104,68 @@ static void sets_and_objects(void) {
     expect("byte of a whole object", SETS[objects[1][PGS_OBJECT_PLACE]], 0xCC);
 }
 
+/* The times of a segment, as the writers take them. */
+#define TIMES(s) (uint32_t)(s)[PGS_SEGMENT_PTS], (uint32_t)(s)[PGS_SEGMENT_DTS]
+
+/* Writes the composition, the window, the palette, the object and the END of STREAM again: it has no tails. */
+static void writing(pgs_segment *segments, const pgs_pcs *pcs, const pgs_placement *placement,
+                    const pgs_window *window, const pgs_pds *pds, const pgs_entry *entry, const pgs_ods ods) {
+    uint8_t out[sizeof STREAM];
+    size_t at = 0;
+    uint64_t written = 77;
+    pgs_ods_numbers numbers;
+    int i;
+
+    for (i = 0; i < PGS_ODS_NUMBERS; i++) {
+        numbers[i] = (uint32_t)ods[i];
+    }
+    expect("a written PCS", pgs_encode_pcs(TIMES(segments[0]), pcs, placement, 1, out, sizeof out, &written), PGS_ACCEPTED);
+    expect("its length", written, 40);
+    at += (size_t)written;
+    expect("a written WDS", pgs_encode_wds(TIMES(segments[1]), window, 1, out + at, sizeof out - at, &written), PGS_ACCEPTED);
+    at += (size_t)written;
+    expect("a written PDS", pgs_encode_pds(TIMES(segments[2]), pds, entry, 1, out + at, sizeof out - at, &written), PGS_ACCEPTED);
+    at += (size_t)written;
+    expect("a written ODS", pgs_encode_ods(TIMES(segments[3]), (const pgs_ods_numbers *)&numbers,
+                                           body(segments[3]) + ods[PGS_ODS_DATA_PLACE], (size_t)ods[PGS_ODS_DATA_LENGTH],
+                                           out + at, sizeof out - at, &written), PGS_ACCEPTED);
+    at += (size_t)written;
+    expect("a written END", pgs_encode_end(TIMES(segments[4]), out + at, sizeof out - at, &written), PGS_ACCEPTED);
+    at += (size_t)written;
+    expect("the length of all", at, sizeof STREAM);
+    expect("what was written", memcmp(out, STREAM, sizeof STREAM) == 0, 1);
+    numbers[PGS_ODS_DECLARED_LENGTH] = 0x1000000;
+    expect("a declared length of 2^24", pgs_encode_ods(0, 0, (const pgs_ods_numbers *)&numbers, STREAM, 0, out, 0, &written), PGS_NOT_ENCODABLE);
+}
+
+/* An unknown kind, and the list of writes. */
+static void more_writing(void) {
+    static const uint8_t UNKNOWN[] = {'P', 'G', 0, 0, 0, 1, 0, 0, 0, 2, 0x99, 0, 2, 0xAA, 0xBB};
+    uint8_t out[sizeof STREAM + 1];
+    uint64_t accepted = 77, written = 77;
+
+    memset(out, 9, sizeof out);
+    expect("a known kind as unknown", pgs_encode_other(1, 2, PGS_KIND_END, UNKNOWN, 0, out, 13, &written), PGS_NOT_ENCODABLE);
+    expect("an output too short", pgs_encode_other(1, 2, 0x99, UNKNOWN + 13, 2, out, 14, &written), PGS_BUFFER_TOO_SMALL);
+    expect("the length after a refusal", written, 77);
+    expect("the output after a refusal", out[0], 9);
+    expect("an unknown kind", pgs_encode_other(1, 2, 0x99, UNKNOWN + 13, 2, out, 15, &written), PGS_ACCEPTED);
+    expect("its bytes", memcmp(out, UNKNOWN, sizeof UNKNOWN) == 0, 1);
+    expect("the byte after it", out[15], 9);
+
+    expect("a cut stream", pgs_write_segments(STREAM, sizeof STREAM - 1, 5, out, sizeof out, &accepted, &written), PGS_TRUNCATED_HEADER);
+    expect("accepted writes after a refusal", accepted, 77);
+    expect("all writes", pgs_write_segments(STREAM, sizeof STREAM, 5, out, sizeof out, &accepted, &written), PGS_ACCEPTED);
+    expect("accepted writes", accepted, 5);
+    expect("their length", written, sizeof STREAM);
+    expect("their bytes", memcmp(out, STREAM, sizeof STREAM) == 0, 1);
+    expect("the byte after them", out[sizeof STREAM], 9);
+    expect("writes without room", pgs_write_segments(STREAM, sizeof STREAM, 5, out, 39, &accepted, &written), PGS_ACCEPTED);
+    expect("the first that fits", out[10], PGS_KIND_WDS);
+    expect("accepted writes without room", accepted, 2);
+    expect("the length of two writes", written, 36);
+}
+
 /* The card line of the one set. */
 static void cards(void) {
     static const char line[] = "0000000000000009000180000200040001\n";
@@ -160,6 +223,9 @@ int main(void) {
     expect("data place", ods[PGS_ODS_DATA_PLACE], 11);
     expect("data length", ods[PGS_ODS_DATA_LENGTH], 11);
 
+    writing(segments, (const pgs_pcs *)&pcs, (const pgs_placement *)&placement, (const pgs_window *)&window,
+            (const pgs_pds *)&pds, (const pgs_entry *)&entry, ods);
+    more_writing();
     sets_and_objects();
     cards();
     pixels_and_colors(body(segments[3]), ods, pds, (const pgs_entry *)&entry);

@@ -15,6 +15,7 @@ pub struct Inputs {
     pub bitmaps: u64,
     pub colors: u64,
     pub palettes: u64,
+    pub segments: u64,
 }
 
 impl Inputs {
@@ -26,6 +27,7 @@ impl Inputs {
             bitmaps: self.bitmaps - earlier.bitmaps,
             colors: self.colors - earlier.colors,
             palettes: self.palettes - earlier.palettes,
+            segments: self.segments - earlier.segments,
         }
     }
 }
@@ -39,6 +41,7 @@ impl fmt::Display for Inputs {
             (self.bitmaps, "bitmaps"),
             (self.colors, "colours"),
             (self.palettes, "lists of palettes"),
+            (self.segments, "segments to write"),
         ];
         let some = sorts.iter().filter(|(count, _)| *count > 0);
         let each: Vec<String> = some.map(|(count, sort)| format!("{count} {sort}")).collect();

@@ -41,6 +41,11 @@ impl<R: Record> Lent<R> {
         self.records.len() - 2 * GUARD
     }
 
+    /// The lent records.
+    pub fn records(&self) -> &[R] {
+        &self.records[GUARD..GUARD + self.len()]
+    }
+
     /// The first lent record. The pointer may reach the guards too: a stray store is seen, not undefined.
     pub fn pointer(&mut self) -> *mut R {
         self.records[..].as_mut_ptr().wrapping_add(GUARD)

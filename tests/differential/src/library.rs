@@ -16,6 +16,8 @@ pub type PdsRecord = [u8; 2];
 pub type EntryRecord = [u8; 5];
 /// Id, version, flag, declared length, dimensions present, width, height, place of the data, its length.
 pub type OdsRecord = [u64; 9];
+/// Id, version, flag, declared length, dimensions present, width, height: an ODS that is to be written.
+pub type OdsCells = [u32; 7];
 /// Place of the PCS, place just after the END, PTS of the PCS.
 pub type SetRecord = [u64; 3];
 /// Id, version, width, height, holder, place, length.
@@ -62,6 +64,65 @@ mod c {
             count: *mut Count,
         ) -> u8;
         pub fn pgs_parse_ods(body: *const u8, body_len: usize, ods: *mut OdsRecord) -> u8;
+        pub fn pgs_encode_pcs(
+            pts: u32,
+            dts: u32,
+            pcs: *const PcsRecord,
+            placements: *const PlacementRecord,
+            placements_len: usize,
+            out: *mut u8,
+            out_len: usize,
+            written: *mut Count,
+        ) -> u8;
+        pub fn pgs_encode_wds(
+            pts: u32,
+            dts: u32,
+            windows: *const WindowRecord,
+            windows_len: usize,
+            out: *mut u8,
+            out_len: usize,
+            written: *mut Count,
+        ) -> u8;
+        pub fn pgs_encode_pds(
+            pts: u32,
+            dts: u32,
+            pds: *const PdsRecord,
+            entries: *const EntryRecord,
+            entries_len: usize,
+            out: *mut u8,
+            out_len: usize,
+            written: *mut Count,
+        ) -> u8;
+        pub fn pgs_encode_ods(
+            pts: u32,
+            dts: u32,
+            ods: *const OdsCells,
+            data: *const u8,
+            data_len: usize,
+            out: *mut u8,
+            out_len: usize,
+            written: *mut Count,
+        ) -> u8;
+        pub fn pgs_encode_end(pts: u32, dts: u32, out: *mut u8, out_len: usize, written: *mut Count) -> u8;
+        pub fn pgs_encode_other(
+            pts: u32,
+            dts: u32,
+            kind: u8,
+            data: *const u8,
+            data_len: usize,
+            out: *mut u8,
+            out_len: usize,
+            written: *mut Count,
+        ) -> u8;
+        pub fn pgs_write_segments(
+            stream: *const u8,
+            stream_len: usize,
+            writes: u64,
+            out: *mut u8,
+            out_len: usize,
+            accepted: *mut Count,
+            written: *mut Count,
+        ) -> u8;
         pub fn pgs_decode_rle(
             data: *const u8,
             data_len: usize,
@@ -170,6 +231,72 @@ pub fn parse_pds(
 
 pub fn parse_ods(body: &Input, ods: &mut Lent<OdsRecord>) -> u8 {
     unsafe { c::pgs_parse_ods(body.pointer(), body.len(), ods.pointer()) }
+}
+
+/// The output of a writer: the lent bytes, their number, and where the number of written ones goes.
+pub type Out<'a> = (*mut u8, usize, &'a mut Lent<Count>);
+
+/// PTS and DTS.
+pub type Times = (u32, u32);
+
+/// What is handed to the writers is lent for writing, though nothing may be written there: a stray store is seen,
+/// not undefined.
+pub fn encode_pcs(
+    (pts, dts): Times,
+    pcs: &mut PcsRecord,
+    placements: &mut [PlacementRecord],
+    (out, len, written): Out,
+) -> u8 {
+    let (list, count) = (placements.as_mut_ptr(), placements.len());
+    unsafe { c::pgs_encode_pcs(pts, dts, pcs, list, count, out, len, written.pointer()) }
+}
+
+pub fn encode_wds((pts, dts): Times, windows: &mut [WindowRecord], (out, len, written): Out) -> u8 {
+    let (list, count) = (windows.as_mut_ptr(), windows.len());
+    unsafe { c::pgs_encode_wds(pts, dts, list, count, out, len, written.pointer()) }
+}
+
+pub fn encode_pds(
+    (pts, dts): Times,
+    pds: &mut PdsRecord,
+    entries: &mut [EntryRecord],
+    (out, len, written): Out,
+) -> u8 {
+    let (list, count) = (entries.as_mut_ptr(), entries.len());
+    unsafe { c::pgs_encode_pds(pts, dts, pds, list, count, out, len, written.pointer()) }
+}
+
+pub fn encode_ods((pts, dts): Times, ods: &mut OdsCells, data: &mut [u8], (out, len, written): Out) -> u8 {
+    let (data, data_len) = (data.as_mut_ptr(), data.len());
+    unsafe { c::pgs_encode_ods(pts, dts, ods, data, data_len, out, len, written.pointer()) }
+}
+
+pub fn encode_end((pts, dts): Times, (out, len, written): Out) -> u8 {
+    unsafe { c::pgs_encode_end(pts, dts, out, len, written.pointer()) }
+}
+
+pub fn encode_other((pts, dts): Times, kind: u8, data: &mut [u8], (out, len, written): Out) -> u8 {
+    let (data, data_len) = (data.as_mut_ptr(), data.len());
+    unsafe { c::pgs_encode_other(pts, dts, kind, data, data_len, out, len, written.pointer()) }
+}
+
+pub fn write_segments(
+    stream: &Input,
+    writes: u64,
+    (out, len, written): Out,
+    accepted: &mut Lent<Count>,
+) -> u8 {
+    unsafe {
+        c::pgs_write_segments(
+            stream.pointer(),
+            stream.len(),
+            writes,
+            out,
+            len,
+            accepted.pointer(),
+            written.pointer(),
+        )
+    }
 }
 
 pub fn decode_rle(data: &Input, width: u16, height: u16, pixels: *mut u8, len: usize) -> u8 {

@@ -16,6 +16,7 @@ mod sets;
 mod sheet;
 mod shrink;
 mod vast;
+mod writer;
 
 use compare::Tally;
 use run::{unhex, Layer, Run};
@@ -27,9 +28,13 @@ const USAGE: &str = "\
 differential                                    the examples, then the comparison
 differential examples                           the examples alone
 differential compare [--seed N] [--streams N] [--layer NAME]
-                                                the comparison alone; NAME is segments, bitmap, color or sets
+                                                the comparison alone; NAME is segments, writer, bitmap, color or sets
 differential stream HEX                         one stream
 differential sets HEX                           one stream: its sets and their objects
+differential writes HEX                         one stream: its segments written again, one by one and as a list
+differential fields HEX                         fields to write: the writer (14, 15, 16, 17, 80, or 00 for unknown
+                                                kinds), PTS, DTS, the byte of an unknown kind, the cells of the
+                                                record, then the list or the data
 differential body KIND HEX                      one body; KIND is 14, 15, 16 or 17
 differential bitmap HEX                         one bitmap: width and height, 2 bytes each, then the data
 differential color HEX                          one colour: Y, Cb, Cr
@@ -38,7 +43,7 @@ differential palettes HEX                       palettes: the named id, then for
 HEX is hexadecimal digits, or @ and the name of a file that has them";
 
 /// The layers in the order in which they are compared.
-const LAYERS: [Layer; 4] = [segments::LAYER, bitmap::LAYER, color::LAYER, sets::LAYER];
+const LAYERS: [Layer; 5] = [segments::LAYER, writer::LAYER, bitmap::LAYER, color::LAYER, sets::LAYER];
 
 fn main() -> ExitCode {
     let words: Vec<String> = std::env::args().skip(1).collect();
@@ -55,6 +60,8 @@ fn main() -> ExitCode {
             let kind = u8::from_str_radix(kind, 16).expect("two digits");
             one(hex, |body, tally| segments::check_body(kind, body, tally))
         }
+        ["writes", ref hex @ ..] => one(hex, writer::check),
+        ["fields", ref hex @ ..] => one(hex, writer::check_input),
         ["sets", ref hex @ ..] => one(hex, sets::check),
         ["bitmap", ref hex @ ..] => one(hex, bitmap::check),
         ["color", ref hex @ ..] => one(hex, color::check_color),

@@ -6,6 +6,9 @@ use std::collections::BTreeSet;
 /// Given when a lent buffer or list is too short; the Rust lends nothing, so it has no message for it.
 pub const TOO_SHORT: u8 = 34;
 
+/// Given when the format cannot hold the fields that are to be written; the Rust writes other ones.
+pub const UNWRITABLE: u8 = 35;
+
 /// Each message that reading, grouping, joining, decoding and painting can give, with its number.
 /// 23, 34, 35 and 36 are refusals that the Rust lacks.
 const NUMBERS: [(u8, &str); 32] = [

@@ -20,6 +20,20 @@ pub struct Layer {
     pub answers: &'static [(&'static str, &'static [u8])],
 }
 
+/// Takes the streams of a group that makes streams.
+pub struct Sink<'a> {
+    pub seed: u64,
+    /// How many random streams to make.
+    pub streams: usize,
+    take: &'a mut dyn FnMut(&[u8]),
+}
+
+impl Sink<'_> {
+    pub fn stream(&mut self, stream: &[u8]) {
+        (self.take)(stream);
+    }
+}
+
 /// Inputs of one kind.
 pub struct Group {
     pub name: &'static str,
@@ -49,6 +63,19 @@ impl Run {
         println!("  smallest input found, {} bytes: {shown}", small.len());
         println!("  to compare it again: tests/differential/run {command} {}", shown_input(&small));
         process::exit(1);
+    }
+
+    /// Compares each stream that is made.
+    pub fn compare_streams(
+        &mut self,
+        streams: usize,
+        make: fn(&mut Sink),
+        command: &str,
+        check: fn(&[u8], &mut Tally) -> Result<(), String>,
+    ) {
+        let seed = self.seed;
+        let mut take = |stream: &[u8]| self.compare(Form::Stream, command, stream, check);
+        make(&mut Sink { seed, streams, take: &mut take });
     }
 
     /// Compares the groups of a layer and prints how many inputs each had.

@@ -1,7 +1,7 @@
 //! The layer of segments: the stream, and the bodies of PCS, WDS, PDS and ODS.
 
 mod examples;
-mod inputs;
+pub mod inputs;
 pub mod oracle;
 
 use crate::compare::{list_calls, record_call, Tally, Wanted};

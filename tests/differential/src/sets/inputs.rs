@@ -3,26 +3,25 @@
 use super::check;
 use crate::generate::*;
 use crate::prng::Prng;
-use crate::run::{Group, Run};
-use crate::shrink::Form;
+use crate::run::{Group, Run, Sink};
 
 pub fn groups() -> Vec<Group> {
     let group = |name, inputs| Group { name, inputs };
     vec![
-        group("every sequence of up to 5 segments out of 13", every_sequence),
-        group("every set of up to 4 fragments out of 15", every_set),
-        group("every cut of three sets, 1 to 12 bytes left over", cuts),
-        group("63 to 66 objects, and one fragment more", many_objects),
-        group("objects of up to 16 MiB", large_objects),
-        group("1,000 sets", many_sets),
-        group("good sets", good),
-        group("damaged sets", damaged_sets),
-        group("random segments", random),
+        group("every sequence of up to 5 segments out of 13", |run| streams(run, every_sequence)),
+        group("every set of up to 4 fragments out of 15", |run| streams(run, every_set)),
+        group("every cut of three sets, 1 to 12 bytes left over", |run| streams(run, cuts)),
+        group("63 to 66 objects, and one fragment more", |run| streams(run, many_objects)),
+        group("objects of up to 16 MiB", |run| streams(run, large_objects)),
+        group("1,000 sets", |run| streams(run, many_sets)),
+        group("good sets", |run| streams(run, good)),
+        group("damaged sets", |run| streams(run, damaged_sets)),
+        group("random segments", |run| streams(run, random)),
     ]
 }
 
-fn compare(run: &mut Run, stream: &[u8]) {
-    run.compare(Form::Stream, "sets", stream, check);
+fn streams(run: &mut Run, make: fn(&mut Sink)) {
+    run.compare_streams(run.streams, make, "sets", check);
 }
 
 /// A composition without placements.
@@ -47,7 +46,7 @@ pub fn ods(id: u16, version: u8, flag: u8, declared: u32, data: &[u8]) -> Vec<u8
 }
 
 /// Every sequence of `len` letters, between a front and a back.
-fn every(run: &mut Run, alphabet: &[Vec<u8>], len: usize, front: &[u8], back: &[u8]) {
+fn every(to: &mut Sink, alphabet: &[Vec<u8>], len: usize, front: &[u8], back: &[u8]) {
     let mut letters = vec![0; len];
     loop {
         let mut stream = front.to_vec();
@@ -55,14 +54,14 @@ fn every(run: &mut Run, alphabet: &[Vec<u8>], len: usize, front: &[u8], back: &[
             stream.extend(&alphabet[*letter]);
         }
         stream.extend(back);
-        compare(run, &stream);
+        to.stream(&stream);
         let Some(at) = letters.iter().rposition(|letter| letter + 1 < alphabet.len()) else { break };
         letters[at] += 1;
         letters[at + 1..].fill(0);
     }
 }
 
-fn every_sequence(run: &mut Run) {
+fn every_sequence(to: &mut Sink) {
     let mut alphabet = vec![pcs(7), end(), plain(WDS, &[0]), plain(PDS, &[1, 2]), plain(0x99, &[1])];
     for id in [1, 2] {
         alphabet.push(ods(id, 0, 0xC0, 5, &[0x11]));
@@ -71,12 +70,12 @@ fn every_sequence(run: &mut Run) {
         alphabet.push(ods(id, 3, 0x00, 0, &[]));
     }
     for len in 0..=5 {
-        every(run, &alphabet, len, &[], &[]);
+        every(to, &alphabet, len, &[], &[]);
     }
 }
 
 /// Fragments of two ids with declared lengths that fit and that do not, between a PCS and an END.
-fn every_set(run: &mut Run) {
+fn every_set(to: &mut Sink) {
     let mut alphabet = vec![plain(0x99, &[])];
     for id in [1, 0x0100] {
         alphabet.push(ods(id, 0, 0xC0, 5, &[0x11]));
@@ -88,24 +87,24 @@ fn every_set(run: &mut Run) {
         alphabet.push(ods(id, 3, 0x41, 6, &[0x44]));
     }
     for len in 0..=4 {
-        every(run, &alphabet, len, &pcs(1), &end());
+        every(to, &alphabet, len, &pcs(1), &end());
     }
 }
 
-fn cuts(run: &mut Run) {
-    let mut p = Prng::named(run.seed, "cuts of sets");
+fn cuts(to: &mut Sink) {
+    let mut p = Prng::named(to.seed, "cuts of sets");
     let three: Vec<u8> = (0..3).flat_map(|_| set(&mut p)).collect();
     for len in 0..=three.len() {
-        compare(run, &three[..len]);
-        compare(run, &three[len..]);
+        to.stream(&three[..len]);
+        to.stream(&three[len..]);
     }
     for left_over in 1..=12 {
-        compare(run, &[&three[..], &end()[..left_over]].concat());
+        to.stream(&[&three[..], &end()[..left_over]].concat());
     }
 }
 
 /// Sets of objects with one or two fragments each, then nothing or one fragment more: new, known, or loose.
-fn many_objects(run: &mut Run) {
+fn many_objects(to: &mut Sink) {
     for count in 63..=66u16 {
         for shape in 0..4 {
             let whole = |id: u16| ods(id, 1, 0xC0, 6, &id.to_be_bytes());
@@ -125,30 +124,30 @@ fn many_objects(run: &mut Run) {
             }
             let more = [vec![], whole(0), whole(5), whole(999), first(5), last(0), last(5), last(999)];
             for one in more {
-                compare(run, &[&body[..], &one, &end()].concat());
-                compare(run, &[&pcs(1), &end(), &body[..], &one, &end(), &pcs(2), &end()].concat());
-                compare(run, &[&pcs(1), &one[..], &body[24..], &end()].concat());
+                to.stream(&[&body[..], &one, &end()].concat());
+                to.stream(&[&pcs(1), &end(), &body[..], &one, &end(), &pcs(2), &end()].concat());
+                to.stream(&[&pcs(1), &one[..], &body[24..], &end()].concat());
             }
         }
     }
 }
 
 /// Full fragments, up to the largest declared length.
-fn large_objects(run: &mut Run) {
+fn large_objects(to: &mut Sink) {
     let full = |id, flag, declared| ods(id, 0, flag, declared, &vec![id as u8 + flag; 65_524]);
-    compare(run, &[pcs(0), full(1, 0xC0, 65_528), end()].concat());
+    to.stream(&[pcs(0), full(1, 0xC0, 65_528), end()].concat());
     for middle in [0, 1, 20, 254] {
         let length = 4 + 65_524 * (middle as u32 + 2);
         for declared in [length - 1, length, length + 1] {
             let mut stream = [pcs(0), full(1, 0x80, declared)].concat();
             (0..middle).for_each(|_| stream.extend(full(1, 0, 0)));
             stream.extend([full(1, 0x40, 0), full(2, 0xC0, 65_528), end()].concat());
-            compare(run, &stream);
+            to.stream(&stream);
         }
     }
 }
 
-fn many_sets(run: &mut Run) {
+fn many_sets(to: &mut Sink) {
     let mut stream = Vec::new();
     for number in 0..1_000 {
         stream.extend(pcs(number * 90));
@@ -157,9 +156,9 @@ fn many_sets(run: &mut Run) {
         }
         stream.extend(end());
     }
-    compare(run, &stream);
+    to.stream(&stream);
     stream.extend(end());
-    compare(run, &stream);
+    to.stream(&stream);
 }
 
 /// A set that is accepted, its fragments mixed.
@@ -217,18 +216,18 @@ fn chain(p: &mut Prng, id: u16) -> Vec<Vec<u8>> {
     chain
 }
 
-fn good(run: &mut Run) {
-    let mut p = Prng::named(run.seed, "good sets");
-    for _ in 0..run.streams / 25 {
+pub fn good(to: &mut Sink) {
+    let mut p = Prng::named(to.seed, "good sets");
+    for _ in 0..to.streams / 25 {
         let count = p.between(0, 3);
         let stream: Vec<u8> = (0..count).flat_map(|_| set(&mut p)).collect();
-        compare(run, &stream);
+        to.stream(&stream);
     }
 }
 
-fn damaged_sets(run: &mut Run) {
-    let mut p = Prng::named(run.seed, "damaged sets");
-    for _ in 0..run.streams / 10 {
+fn damaged_sets(to: &mut Sink) {
+    let mut p = Prng::named(to.seed, "damaged sets");
+    for _ in 0..to.streams / 10 {
         let count = p.between(1, 2);
         let mut stream: Vec<u8> = (0..count).flat_map(|_| set(&mut p)).collect();
         if p.once_in(2) {
@@ -236,7 +235,7 @@ fn damaged_sets(run: &mut Run) {
         } else {
             move_segment(&mut p, &mut stream);
         }
-        compare(run, &stream);
+        to.stream(&stream);
     }
 }
 
@@ -265,9 +264,9 @@ fn move_segment(p: &mut Prng, stream: &mut Vec<u8>) {
 }
 
 /// A PCS and any segments that are read, ids of objects small, then mostly an END.
-fn random(run: &mut Run) {
-    let mut p = Prng::named(run.seed, "random segments");
-    for _ in 0..run.streams / 10 {
+pub fn random(to: &mut Sink) {
+    let mut p = Prng::named(to.seed, "random segments");
+    for _ in 0..to.streams / 10 {
         let mut stream = pcs(p.next() as u32);
         for _ in 0..p.between(0, 12) {
             let flag = p.pick(&[0x80, 0xC0, 0x40, 0x40, 0x00, 0xFF]);
@@ -282,6 +281,6 @@ fn random(run: &mut Run) {
         if !p.once_in(20) {
             stream.extend(end());
         }
-        compare(run, &stream);
+        to.stream(&stream);
     }
 }

@@ -1,7 +1,7 @@
 //! The layer of sets: display sets, the objects joined from their fragments, and the card lines.
 
 mod examples;
-mod inputs;
+pub mod inputs;
 pub mod oracle;
 
 use crate::compare::{list_calls, same_number, Tally, Wanted};
