@@ -120,7 +120,7 @@ impl CompositionObject {
     }
 
     // The placement as a record of a list: object id, window id, crop flag, x, y, crop present (0 or 1), crop x, y, width, height.
-    pub fn record(self) -> [u16; 10]
+    fn record(self) -> [u16; 10]
         ensures { λ r. ⌜ r ≡ placementRow self ⌝ }
     {
         let id = self.object_id;

@@ -60,7 +60,7 @@ impl PaletteEntry {
     }
 
     // The entry as a record of a list: id, Y, Cr, Cb, alpha.
-    pub fn record(self) -> [u8; 5]
+    fn record(self) -> [u8; 5]
         ensures { λ r. ⌜ r ≡ entryRow self ⌝ }
     {
         [self.palette_entry_id, self.y, self.cr, self.cb, self.alpha]

@@ -53,7 +53,7 @@ impl Window {
     }
 
     // The window as a record of a list: id, x, y, width, height.
-    pub fn record(self) -> [u16; 5]
+    fn record(self) -> [u16; 5]
         ensures { λ r. ⌜ r ≡ windowRow self ⌝ }
     {
         [
