@@ -6,7 +6,7 @@ ghost use mathlib.Core.Path.{_≡_};
 ghost use Prim.Native.Nat.{_+_, _<_, _^_};
 ghost use Rattle.pgs_cards.specs.Walks.{cardAfter, closes, noCard, opened};
 
-pub struct Card {
+pub(crate) struct Card {
     // the place of the set's PCS in the stream
     pub place: usize,
     pub pts: u32,

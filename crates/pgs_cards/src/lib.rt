@@ -1,4 +1,4 @@
-pub mod card;
+mod card;
 pub mod cards;
 mod line;
 pub mod report;
