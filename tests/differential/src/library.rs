@@ -352,3 +352,41 @@ pub fn cards(stream: &Input, _: &mut Lent<Nothing>, out: &mut Lent<Byte>, writte
     let len = out.len();
     unsafe { c::pgs_cards(stream.pointer(), stream.len(), out.pointer(), len, written.pointer()) }
 }
+
+/// Some of the calls with plain memory, for measuring.
+pub mod plain {
+    use super::*;
+
+    pub fn parse_segments(stream: &[u8], list: &mut [SegmentRecord], count: &mut Count) -> u8 {
+        unsafe { c::pgs_parse_segments(stream.as_ptr(), stream.len(), list.as_mut_ptr(), list.len(), count) }
+    }
+
+    pub fn parse_display_sets(stream: &[u8], list: &mut [SetRecord], count: &mut Count) -> u8 {
+        unsafe {
+            c::pgs_parse_display_sets(stream.as_ptr(), stream.len(), list.as_mut_ptr(), list.len(), count)
+        }
+    }
+
+    pub fn reassemble_objects(
+        stream: &[u8],
+        set: u64,
+        scratch: &mut [u8],
+        list: &mut [ObjectRecord],
+        count: &mut Count,
+    ) -> u8 {
+        let (from, len) = (stream.as_ptr(), stream.len());
+        let (room, size) = (scratch.as_mut_ptr(), scratch.len());
+        unsafe { c::pgs_reassemble_objects(from, len, set, room, size, list.as_mut_ptr(), list.len(), count) }
+    }
+
+    pub fn write_segments(stream: &[u8], out: &mut [u8], accepted: &mut Count, written: &mut Count) -> u8 {
+        let (from, len) = (stream.as_ptr(), stream.len());
+        unsafe { c::pgs_write_segments(from, len, u64::MAX, out.as_mut_ptr(), out.len(), accepted, written) }
+    }
+
+    pub fn decode_rle(data: &[u8], width: u16, height: u16, pixels: &mut [u8]) -> u8 {
+        unsafe {
+            c::pgs_decode_rle(data.as_ptr(), data.len(), width, height, pixels.as_mut_ptr(), pixels.len())
+        }
+    }
+}

@@ -1,5 +1,6 @@
 //! Compares the library with the published Rust on many inputs.
 
+mod bench;
 mod bitmap;
 mod color;
 mod compare;
@@ -29,6 +30,7 @@ differential                                    the examples, then the compariso
 differential examples                           the examples alone
 differential compare [--seed N] [--streams N] [--layer NAME]
                                                 the comparison alone; NAME is segments, writer, bitmap, color or sets
+differential bench [--seed N]                   times of both sides
 differential stream HEX                         one stream
 differential sets HEX                           one stream: its sets and their objects
 differential writes HEX                         one stream: its segments written again, one by one and as a list
@@ -52,6 +54,7 @@ fn main() -> ExitCode {
         [] => run_examples().and_then(|()| run_comparison(&Options::default())),
         ["examples"] => run_examples(),
         ["compare", ref rest @ ..] => options(rest).and_then(|options| run_comparison(&options)),
+        ["bench", ref rest @ ..] => options(rest).map(|options| bench::run(options.seed)),
         ["stream", ref hex @ ..] => one(hex, |stream, tally| {
             segments::show(stream);
             segments::check_stream(stream, tally)
