@@ -6,7 +6,7 @@ FILE = samples/one-set.sup
 cards:
 	@mkdir -p target
 	@rt check setcards >target/setcards.log 2>&1 || { cat target/setcards.log; exit 1; }
-	@target/bin/setcards <$(FILE)
+	@target/bin/setcards <"$(FILE)"
 
 # The gate: everything proved from nothing, must-fail edits, programs, setcards on more inputs, the comparison with
 # the published Rust.

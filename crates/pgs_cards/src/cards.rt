@@ -15,7 +15,7 @@ ghost use Rattle.pgs_base.specs.Outcome.{accepted, laid, Delivered};
 ghost use Rattle.pgs_set.specs.Sets.{setCount, setsVerdict};
 ghost use Rattle.pgs_cards.specs.Cards.{cardLines, cardsOutcome, cardsVerdict};
 
-// The longest stream whose places all have eight digits.
+// In a stream of so many bytes every place has eight digits.
 pub const PLACE_LIMIT: usize = 4294967296;
 
 // How many bytes were written, or why none.

@@ -114,7 +114,7 @@ pub fn reassemble_objects(
     reassemble(s, set, &mut table, scratch, objects)
 }
 
-// How many objects set number `set` has. Nothing is lent.
+// How many objects set number `set` has. Nothing is lent for writing.
 pub fn count_objects(s: &[u8], set: usize) -> ObjectsAnswer
     ensures { λ r. ⌜ objectsOutcome r ≡ outcomeOf (objectsVerdict set (now (s .entry))) (length (objectsOf set (now (s .entry)))) ⌝ }
 {

@@ -100,12 +100,12 @@ fn joined() {
 fn many() {
     let full = Stream::new().pcs(0).objects(64);
     show::objects_many(b"64 objects", full.end());
-    let twin = full.first(1, 0, 0xC0, 5, 1, 1).end();
-    show::objects_many(b"64 objects, first of a closed id", twin);
-    let crowded = Stream::new().pcs(0).objects(65);
+    let repeated = full.first(1, 0, 0xC0, 5, 1, 1).end();
+    show::objects_many(b"64 objects, first of a closed id", repeated);
+    let too_many = Stream::new().pcs(0).objects(65);
     show::objects_many(
-        b"65 objects, loose fragment",
-        crowded.next(99, 0, 0x40, 0, 0, 0).end(),
+        b"65 objects, then a continuation without a first",
+        too_many.next(99, 0, 0x40, 0, 0, 0).end(),
     );
 }
 

@@ -48,7 +48,7 @@ pub const MOST_OBJECTS: usize = 64;
 
 /// The objects of a set, or the number. The limit of the library is added.
 pub fn objects(stream: &[u8], set: &Set) -> WantedObjects {
-    if let Some(number) = crowded(&set.read) {
+    if let Some(number) = too_many(&set.read) {
         return Err(number);
     }
     let read = set.read.reassemble_objects().map_err(|e| number_of(&e))?;
@@ -99,7 +99,7 @@ fn end_of_fragment(stream: &[u8], [from, to, _]: SetRecord, id: u16) -> usize {
 }
 
 /// The number for a set with more objects than the library takes: 23, unless an earlier fragment is refused.
-fn crowded(set: &DisplaySet) -> Option<u8> {
+fn too_many(set: &DisplaySet) -> Option<u8> {
     let mut seen = Vec::new();
     let over = set.objects.iter().position(|ods| {
         let new = ods.fragment().is_first() && !seen.contains(&ods.object_id);
