@@ -1,0 +1,5 @@
+pub mod StripLaws
+pub mod RowLaws
+pub mod PlaneLaws
+pub mod ClipLaws
+pub mod CallLaws
