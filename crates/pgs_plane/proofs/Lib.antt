@@ -3,3 +3,4 @@ pub mod RowLaws
 pub mod PlaneLaws
 pub mod ClipLaws
 pub mod CallLaws
+pub mod LastWins
