@@ -1,19 +1,16 @@
 -- The contracts of the calls at each of their answers. Assumes nothing.
-use mathlib.Core.Path.{_≡_, refl, sym, ap, _∙_}
-use mathlib.Core.Bool.{Bool, true, false, _&&_}
+use mathlib.Core.Path.{_≡_, sym, ap, _∙_}
+use mathlib.Core.Bool.{Bool, true, false}
 use mathlib.Core.List.{List, _++_}
-use Prim.Native.Nat.{ℕ, _*_, _+_, _≤_, _<_}
+use Prim.Native.Nat.{ℕ, _*_, _≤_, _<_}
 use native.Mathlib.Omega.{arith}
 use borrow.Author.Tests.{le-leb, lt-leb}
-use lib.Dec.{leb}
 use lib.ListN.{length, drop, replicate}
-use Rattle.pgs_base.specs.Outcome.{unless, pick}
 use Rattle.pgs_base.specs.declared.refusal.Refusal.the-variants.{BufferTooSmall}
 use Rattle.pgs_plane.specs.Placing.{Image}
 use Rattle.pgs_plane.specs.Pictures.{planeOf, transparent, cleared}
 use Rattle.pgs_plane.specs.Strips.{strip}
-use Rattle.pgs_plane.specs.Calls.{Changes, planeFits, allFit}
-use Rattle.pgs_plane.specs.declared.plane.Painted.{Painted}
+use Rattle.pgs_plane.specs.Calls.{Changes, allFit}
 use Rattle.pgs_plane.specs.declared.plane.Painted.the-variants.{Done, Refused}
 use Rattle.pgs_plane.proofs.StripLaws.{strip-same, strip-replicate}
 
