@@ -1,0 +1,5 @@
+pub mod Strips
+pub mod Placing
+pub mod Pictures
+pub mod Clipping
+pub mod Calls
