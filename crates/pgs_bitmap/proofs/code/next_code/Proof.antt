@@ -1,5 +1,6 @@
 -- `next_code` meets its contract: nothing, one pixel, or the code that begins with 00. Assumes nothing.
 use mathlib.Core.Path.{_≡_, sym, ap, _∙_}
+use native.Mathlib.Omega.{arith}
 use denote.Ref.{now}
 use borrow.Author.Needs.{needs}
 use Rattle.pgs_bitmap.specs.RunLength.{codeOf}
@@ -9,7 +10,7 @@ use Rattle.pgs_bitmap.proofs.code.next_code.Statement.{statement}
 use Rattle.pgs_bitmap.proofs.code.next_code.Tie as tie
 
 returns : tie.Need-returns
-returns c = sym (ap codeOf (left-none (now (c .before .before .args .«data»)) (c .before .before .args .at) (c .if1 .taken)))
+returns c = sym (ap codeOf (left-none (now (c .before .before .args .«data»)) (c .before .before .args .at) (omega arith)))
 
 shared-slice-read-b : tie.Need-shared-slice-read-b
 shared-slice-read-b c = search needs
