@@ -23,7 +23,7 @@ putAt at size new old = take at old ++ (new ++ drop (at + size) old)
 abbrev pub roomFor : (size place len at need : ℕ) → Bool
 roomFor size place len at need = leb (place + len) at && leb (at + need) size
 
--- 34, "a lent buffer or list is too short", comes first: before it there is no data. Then the bitmap's own verdict. The need is
+-- 34, "a lent buffer or list is too short", comes first, since without it there is no data. Then the bitmap's own verdict. The need is
 -- "width times height bytes for a bitmap".
 abbrev pub withinVerdict : List ℕ → (place len width height at : ℕ) → Verdict
 withinVerdict memory place len width height at =
