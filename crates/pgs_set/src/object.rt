@@ -56,15 +56,6 @@ fn reassemble(
     }
 }
 
-fn counted(s: &[u8], set: usize, table: &mut [[usize; 10]]) -> ObjectsAnswer
-    ensures { λ r. ⌜ objectsOutcome r ≡ outcomeOf (objectsVerdictWithin (length (now (table .entry))) set (now (s .entry))) (length (objectsOf set (now (s .entry)))) ⌝ }
-{
-    match find_objects(s, set, table) {
-        FoundAnswer::Refused(why) => ObjectsAnswer::Refused(why),
-        FoundAnswer::Found(n, _) => ObjectsAnswer::Objects(n),
-    }
-}
-
 fn listed(
     s: &[u8],
     set: usize,
@@ -112,14 +103,6 @@ pub fn reassemble_objects(
 {
     let mut table = [[0usize; 10]; OBJECT_LIMIT];
     reassemble(s, set, &mut table, scratch, objects)
-}
-
-// How many objects set number `set` has. Nothing is lent for writing.
-pub fn count_objects(s: &[u8], set: usize) -> ObjectsAnswer
-    ensures { λ r. ⌜ objectsOutcome r ≡ outcomeOf (objectsVerdict set (now (s .entry))) (length (objectsOf set (now (s .entry)))) ⌝ }
-{
-    let mut table = [[0usize; 10]; OBJECT_LIMIT];
-    counted(s, set, &mut table)
 }
 
 // Whether the objects of every set reassemble: how many sets there are, or the stream's refusal, or that of the first set that is
