@@ -3,7 +3,7 @@ use pgs_base::refusal::Refusal;
 ghost use mathlib.Core.Path.{_≡_};
 ghost use mathlib.Core.Bool.{true};
 ghost use mathlib.Core.List.{[], _∷_};
-ghost use Prim.Native.Nat.{_+_, _*_, _≤_, _<_};
+ghost use Prim.Native.Nat.{_+_, _*_, _%_, _≤_, _<_};
 ghost use lib.ListN.{length, getD, drop};
 ghost use Rattle.pgs_base.specs.Refusals.{numberOf};
 ghost use Rattle.pgs_bitmap.specs.RunLength.{run, found, truncated, escapeOf, runOf};
@@ -29,10 +29,10 @@ fn wide(x: u8) -> usize
 }
 
 // A run of pixels of one color, and the bytes that its code takes.
-struct Run {
-    count: usize,
-    color: u8,
-    taken: usize,
+pub(crate) struct Run {
+    pub(crate) count: usize,
+    pub(crate) color: u8,
+    pub(crate) taken: usize,
 }
 
 // The length of a long run.
@@ -43,34 +43,46 @@ fn long_count(low: usize, third: u8) -> usize
     256 * low + wide(third)
 }
 
-// The run of 00, this second byte and, where its code takes so many, these two more.
-fn run_of(second: u8, third: u8, fourth: u8) -> Run
-    ensures { λ r. ⌜ found (run (r .count) (r .color)) (r .taken) ≡ runOf second (third ∷ fourth ∷ []) ⌝ }
+// The length of the run of 00 and this second byte. Here and in `third_color` the compiler chooses without a branch.
+fn count_of(second: u8, third: u8) -> usize
+    ensures { λ r. ⌜ (second % 128 < 64 → r ≡ second % 64) × (64 ≤ second % 128 → r ≡ 256 * (second % 64) + third) ⌝ }
 {
     let low = wide(second % 64);
+    if second % 128 < 64 {
+        low
+    } else {
+        long_count(low, third)
+    }
+}
+
+// The color of the run of 00, this second byte and one more.
+fn third_color(second: u8, third: u8) -> u8
+    ensures { λ r. ⌜ (second < 0x80 → r ≡ 0) × (0x80 ≤ second → r ≡ third) ⌝ }
+{
+    if second < 0x80 { 0 } else { third }
+}
+
+// The run of 00, this second byte and, where its code takes so many, these two more.
+pub(crate) fn run_of(second: u8, third: u8, fourth: u8) -> Run
+    ensures { λ r. ⌜ found (run (r .count) (r .color)) (r .taken) ≡ runOf second (third ∷ fourth ∷ []) ⌝ }
+{
+    let count = count_of(second, third);
     if second < 0x40 {
         return Run {
-            count: low,
+            count: count,
             color: 0,
             taken: 2,
         };
     }
-    if second < 0x80 {
-        return Run {
-            count: long_count(low, third),
-            color: 0,
-            taken: 3,
-        };
-    }
     if second < 0xC0 {
         return Run {
-            count: low,
-            color: third,
+            count: count,
+            color: third_color(second, third),
             taken: 3,
         };
     }
     Run {
-        count: long_count(low, third),
+        count: count,
         color: fourth,
         taken: 4,
     }
@@ -143,7 +155,7 @@ pub(crate) fn escape_at(data: &[u8], at: usize) -> NextCode
 }
 
 // Whether the eight bytes from a place on are one pixel each. It tests them all, so that the compiler can test them at once.
-fn eight_literals(data: &[u8], at: usize) -> bool
+pub(crate) fn eight_literals(data: &[u8], at: usize) -> bool
     requires { ⌜ at + 8 ≤ length (now «data») ⌝ }
     ensures { λ r. ⌜ (r ≡ true → Literals (now («data» .entry)) at 8) ⌝ }
 {
