@@ -43,7 +43,40 @@ fn long_count(low: usize, third: u8) -> usize
     256 * low + wide(third)
 }
 
-// The length of the run of 00 and this second byte. Here and in `third_color` the compiler chooses without a branch.
+// The run of 00, this second byte and, where its code takes so many, these two more.
+fn run_of(second: u8, third: u8, fourth: u8) -> Run
+    ensures { λ r. ⌜ found (run (r .count) (r .color)) (r .taken) ≡ runOf second (third ∷ fourth ∷ []) ⌝ }
+{
+    let low = wide(second % 64);
+    if second < 0x40 {
+        return Run {
+            count: low,
+            color: 0,
+            taken: 2,
+        };
+    }
+    if second < 0x80 {
+        return Run {
+            count: long_count(low, third),
+            color: 0,
+            taken: 3,
+        };
+    }
+    if second < 0xC0 {
+        return Run {
+            count: low,
+            color: third,
+            taken: 3,
+        };
+    }
+    Run {
+        count: long_count(low, third),
+        color: fourth,
+        taken: 4,
+    }
+}
+
+// The length of the run of 00 and this second byte.
 fn count_of(second: u8, third: u8) -> usize
     ensures { λ r. ⌜ (second % 128 < 64 → r ≡ second % 64) × (64 ≤ second % 128 → r ≡ 256 * (second % 64) + third) ⌝ }
 {
@@ -62,8 +95,9 @@ fn third_color(second: u8, third: u8) -> u8
     if second < 0x80 { 0 } else { third }
 }
 
-// The run of 00, this second byte and, where its code takes so many, these two more.
-pub(crate) fn run_of(second: u8, third: u8, fourth: u8) -> Run
+// The same run. It is told apart by the bytes that it takes alone: the compiler chooses its length and its color without a branch, which
+// is faster where the pixels are stored.
+pub(crate) fn run_to_store(second: u8, third: u8, fourth: u8) -> Run
     ensures { λ r. ⌜ found (run (r .count) (r .color)) (r .taken) ≡ runOf second (third ∷ fourth ∷ []) ⌝ }
 {
     let count = count_of(second, third);
