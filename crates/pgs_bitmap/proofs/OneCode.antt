@@ -30,16 +30,16 @@ module _ (second low : ℕ) (rest : List ℕ) (is-low : low ≡ second % 64) whe
 
 -- the run that takes one byte more, by its length and its color
 pub run-third : (second third : ℕ) {count color : ℕ} (rest : List ℕ) → 0x40 ≤ second → second < 0xC0
-    → (second % 128 < 64 → count ≡ second % 64) × (64 ≤ second % 128 → count ≡ 256 * (second % 64) + third)
+    → (second < 0x80 → count ≡ 256 * (second % 64) + third) × (0x80 ≤ second → count ≡ second % 64)
     → (second < 0x80 → color ≡ 0) × (0x80 ≤ second → color ≡ third) → found (run count color) 3 ≡ runOf second (third ∷ rest)
 run-third second third {count} {color} rest h k counts colors = go (decLt second 0x80)
   where
     go : Dec (second < 0x80) → found (run count color) 3 ≡ runOf second (third ∷ rest)
     go (yes p) =
-        ap₂ (λ (n c : ℕ). found (run n c) 3) (counts .1 (omega (arith, p))) (colors .0 p)
+        ap₂ (λ (n c : ℕ). found (run n c) 3) (counts .0 p) (colors .0 p)
         ∙ run-long-zero second (second % 64) (third ∷ rest) refl h p
     go (no p) =
-        ap₂ (λ (n c : ℕ). found (run n c) 3) (counts .0 (omega (arith, p))) (colors .1 (omega (arith, p)))
+        ap₂ (λ (n c : ℕ). found (run n c) 3) (counts .1 (omega (arith, p))) (colors .1 (omega (arith, p)))
         ∙ run-short-color second (second % 64) (third ∷ rest) refl h (omega (arith, p)) k
 
 -- a found code took so many bytes

@@ -3,7 +3,7 @@ use crate::code::NextCode;
 use crate::code::eight_literals;
 use crate::code::escape_at;
 use crate::code::literals_by_eight;
-use crate::code::run_to_store;
+use crate::code::run_of;
 use pgs_base::refusal::Refusal;
 ghost use mathlib.Core.Path.{_≡_};
 ghost use mathlib.Core.List.{_++_};
@@ -277,7 +277,7 @@ fn store_some(data: &[u8], at: usize, pixels: &mut [u8], out: usize) -> Spot
 {
     let b = data[at];
     if b == 0 {
-        let run = run_to_store(data[at + 1], data[at + 2], data[at + 3]);
+        let run = run_of(data[at + 1], data[at + 2], data[at + 3]);
         fill(pixels, out, run.count, run.color);
         return store_literal(data, at + run.taken, pixels, out + run.count);
     }

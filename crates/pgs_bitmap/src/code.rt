@@ -43,82 +43,47 @@ fn long_count(low: usize, third: u8) -> usize
     256 * low + wide(third)
 }
 
-// The run of 00, this second byte and, where its code takes so many, these two more.
-fn run_of(second: u8, third: u8, fourth: u8) -> Run
-    ensures { λ r. ⌜ found (run (r .count) (r .color)) (r .taken) ≡ runOf second (third ∷ fourth ∷ []) ⌝ }
+// The length of the run of 00, this second byte and one more. Here and for its color the compiler chooses without a branch.
+fn third_count(second: u8, third: u8) -> usize
+    ensures { λ r. ⌜ (second < 0x80 → r ≡ 256 * (second % 64) + third) × (0x80 ≤ second → r ≡ second % 64) ⌝ }
 {
     let low = wide(second % 64);
-    if second < 0x40 {
-        return Run {
-            count: low,
-            color: 0,
-            taken: 2,
-        };
-    }
     if second < 0x80 {
-        return Run {
-            count: long_count(low, third),
-            color: 0,
-            taken: 3,
-        };
-    }
-    if second < 0xC0 {
-        return Run {
-            count: low,
-            color: third,
-            taken: 3,
-        };
-    }
-    Run {
-        count: long_count(low, third),
-        color: fourth,
-        taken: 4,
-    }
-}
-
-// The length of the run of 00 and this second byte.
-fn count_of(second: u8, third: u8) -> usize
-    ensures { λ r. ⌜ (second % 128 < 64 → r ≡ second % 64) × (64 ≤ second % 128 → r ≡ 256 * (second % 64) + third) ⌝ }
-{
-    let low = wide(second % 64);
-    if second % 128 < 64 {
-        low
-    } else {
         long_count(low, third)
+    } else {
+        low
     }
 }
 
-// The color of the run of 00, this second byte and one more.
 fn third_color(second: u8, third: u8) -> u8
     ensures { λ r. ⌜ (second < 0x80 → r ≡ 0) × (0x80 ≤ second → r ≡ third) ⌝ }
 {
     if second < 0x80 { 0 } else { third }
 }
 
-// The same run. It is told apart by the bytes that it takes alone: the compiler chooses its length and its color without a branch, which
-// is faster where the pixels are stored.
-pub(crate) fn run_to_store(second: u8, third: u8, fourth: u8) -> Run
+// The run of 00, this second byte and, where its code takes so many, these two more. Runs are told apart by the bytes that they take.
+pub(crate) fn run_of(second: u8, third: u8, fourth: u8) -> Run
     ensures { λ r. ⌜ found (run (r .count) (r .color)) (r .taken) ≡ runOf second (third ∷ fourth ∷ []) ⌝ }
 {
-    let count = count_of(second, third);
+    let low = wide(second % 64);
     if second < 0x40 {
         return Run {
-            count: count,
+            count: low,
             color: 0,
             taken: 2,
         };
     }
-    if second < 0xC0 {
+    if 0xC0 <= second {
         return Run {
-            count: count,
-            color: third_color(second, third),
-            taken: 3,
+            count: long_count(low, third),
+            color: fourth,
+            taken: 4,
         };
     }
     Run {
-        count: count,
-        color: fourth,
-        taken: 4,
+        count: third_count(second, third),
+        color: third_color(second, third),
+        taken: 3,
     }
 }
 

@@ -12,37 +12,37 @@ use Rattle.pgs_bitmap.proofs.bitmap.store_some.Tie as tie
 shared-slice-read-b : tie.Need-shared-slice-read-b
 shared-slice-read-b c = search needs
 
-add-run-to-store : tie.Need-add-run-to-store
-add-run-to-store c = search needs
+add-run-of : tie.Need-add-run-of
+add-run-of c = search needs
 
-shared-slice-read-run-to-store : tie.Need-shared-slice-read-run-to-store
-shared-slice-read-run-to-store c = search needs
+shared-slice-read-run-of : tie.Need-shared-slice-read-run-of
+shared-slice-read-run-of c = search needs
 
-add-run-to-store-2 : tie.Need-add-run-to-store-2
-add-run-to-store-2 c = search needs
+add-run-of-2 : tie.Need-add-run-of-2
+add-run-of-2 c = search needs
 
-shared-slice-read-run-to-store-2 : tie.Need-shared-slice-read-run-to-store-2
-shared-slice-read-run-to-store-2 c = search needs
+shared-slice-read-run-of-2 : tie.Need-shared-slice-read-run-of-2
+shared-slice-read-run-of-2 c = search needs
 
-add-run-to-store-3 : tie.Need-add-run-to-store-3
-add-run-to-store-3 c = search needs
+add-run-of-3 : tie.Need-add-run-of-3
+add-run-of-3 c = search needs
 
-shared-slice-read-run-to-store-3 : tie.Need-shared-slice-read-run-to-store-3
-shared-slice-read-run-to-store-3 c = search needs
+shared-slice-read-run-of-3 : tie.Need-shared-slice-read-run-of-3
+shared-slice-read-run-of-3 c = search needs
 
-run-to-store-requires : tie.Need-run-to-store-requires
-run-to-store-requires c κs = search needs
+run-of-requires : tie.Need-run-of-requires
+run-of-requires c κs = search needs
 
 -- there is room for the run
-room : (c : tie.After-run-to-store) → c .before .before .before .before .before .before .before .before .args .out + c .run-to-store .result .count ≤ length (now (c .before .before .before .before .before .before .before .before .args .pixels))
-room c = storing-escape-room (c .before .before .before .before .before .before .before .before .pre .1) (omega arith) (c .before .before .before .before .if1 .taken) (c .run-to-store .ensures)
+room : (c : tie.After-run-of) → c .before .before .before .before .before .before .before .before .args .out + c .run-of .result .count ≤ length (now (c .before .before .before .before .before .before .before .before .args .pixels))
+room c = storing-escape-room (c .before .before .before .before .before .before .before .before .pre .1) (omega arith) (c .before .before .before .before .if1 .taken) (c .run-of .ensures)
 
 -- and it takes four bytes at most
-taken : (c : tie.After-run-to-store) → (0 < c .run-to-store .result .taken) × (c .run-to-store .result .taken ≤ 4)
+taken : (c : tie.After-run-of) → (0 < c .run-of .result .taken) × (c .run-of .result .taken ≤ 4)
 taken c =
     let l = now (c .before .before .before .before .before .before .before .before .args .«data») in
     let at = c .before .before .before .before .before .before .before .before .args .at in
-    run-taken (getD l (at + 1) 0) (getD l (at + 2) 0) (getD l (at + 3) 0) (c .run-to-store .ensures)
+    run-taken (getD l (at + 1) 0) (getD l (at + 2) 0) (getD l (at + 3) 0) (c .run-of .ensures)
 
 fill-requires : tie.Need-fill-requires
 fill-requires c κs = room (c .before)
@@ -56,7 +56,7 @@ add-store-literal-2 c = omega (arith, room (c .before .before .before .before .b
 store-literal-requires : tie.Need-store-literal-requires
 store-literal-requires c κs = (
   omega (arith, taken (c .before .before .before .before .before .before .before) .1),
-  storing-escape (c .before .before .before .before .before .before .before .before .before .before .before .before .before .before .before .pre .1) (omega arith) (c .before .before .before .before .before .before .before .before .before .before .before .if1 .taken) (c .before .before .before .before .before .before .before .run-to-store .ensures) _ (c .before .before .before .before .before .fill .kept .0) (c .before .before .before .before .before .fill .ensures),
+  storing-escape (c .before .before .before .before .before .before .before .before .before .before .before .before .before .before .before .pre .1) (omega arith) (c .before .before .before .before .before .before .before .before .before .before .before .if1 .taken) (c .before .before .before .before .before .before .before .run-of .ensures) _ (c .before .before .before .before .before .fill .kept .0) (c .before .before .before .before .before .fill .ensures),
 )
 
 same-length : tie.Need-same-length
@@ -103,13 +103,13 @@ store-some-spec =
     tie.close
     (tie.spec
     shared-slice-read-b
-    add-run-to-store
-    shared-slice-read-run-to-store
-    add-run-to-store-2
-    shared-slice-read-run-to-store-2
-    add-run-to-store-3
-    shared-slice-read-run-to-store-3
-    run-to-store-requires
+    add-run-of
+    shared-slice-read-run-of
+    add-run-of-2
+    shared-slice-read-run-of-2
+    add-run-of-3
+    shared-slice-read-run-of-3
+    run-of-requires
     fill-requires
     add-store-literal
     add-store-literal-2
