@@ -41,6 +41,13 @@ run-bounded second rest =
     (either (ltb second 0xC0) (short-color-bounded (second % 64) rest)
     (long-color-bounded (second % 64) rest)))
 
+-- what a run took of the two bytes that it began with and two more
+pub run-taken : (second third fourth : ℕ) {code : Code} {n : ℕ} → found code n ≡ runOf second (third ∷ fourth ∷ []) → (0 < n) × (n ≤ 4)
+run-taken second third fourth e = both (rw (← e) at (run-bounded second (third ∷ fourth ∷ [])))
+  where
+    both : {code : Code} {n : ℕ} → Bounded 4 (found code n) → (0 < n) × (n ≤ 4)
+    both (within _ p q) = (p, q)
+
 escape-bounded : (rest : List ℕ) → Bounded (suc (length rest)) (escapeOf rest)
 escape-bounded [] = missing
 escape-bounded (second ∷ rest) = either (eqb second 0) (within 2 (omega arith) (omega arith)) (run-bounded second rest)

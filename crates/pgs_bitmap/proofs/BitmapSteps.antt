@@ -1,20 +1,22 @@
 -- Reading a bitmap from a place of its data on: one law for each thing that can stand there.
 -- Assumes nothing.
-use mathlib.Core.Path.{_≡_, refl, _∙_, sym, ap}
+use mathlib.Core.Path.{_≡_, refl, _∙_, sym, ap, ap₂}
 use mathlib.Core.Bool.{true, false}
 use mathlib.Core.List.{List, [], _∷_, _++_}
 use Prim.Native.Nat.{ℕ, _+_, _-_, _≤_, _<_}
+use native.Mathlib.Decide.{decLt}
 use native.Mathlib.Omega.{arith}
-use lib.ListN.{length, drop, replicate, length-drop}
+use lib.ListN.{length, getD, drop, replicate, length-drop}
 use lib.Seq.{drop-drop}
 use borrow.Author.Tests.{le-leb, lt-leb, lt-ltb, le-ltb, eq-eqb, ne-eqb}
 use lib.Dec.{eqb}
 use Rattle.pgs_base.specs.Outcome.{Verdict, refused, unless}
-use Rattle.pgs_bitmap.specs.RunLength.{Code, run, lineEnd, FirstCode, none, found, truncated, codeOf, Codes, andFurther, codesOf, pixelsOf}
+use Rattle.pgs_bitmap.specs.RunLength.{Code, run, lineEnd, FirstCode, none, found, truncated, codeOf, runOf, Codes, andFurther, codesOf, pixelsOf}
 use Rattle.pgs_bitmap.specs.Bitmap.{Reading, counted, stopped, lastLineCounts, atEnd, readFrom, readOn, readingOf, bitmapOf}
 use Rattle.pgs_bitmap.specs.Progress.{Reached}
 use Rattle.pgs_bitmap.proofs.AllCodes.{taken-bounds, codes-are}
 use Rattle.pgs_bitmap.proofs.Places.{left-none}
+use Rattle.pgs_bitmap.proofs.OneCode.{escape-line-end, escape-among, code-escape}
 
 -- a code stands at the place: the codes from there on, and what comes of them
 codes-after : (l : List ℕ) (at : ℕ) {code : Code} {n : ℕ} → codeOf (drop at l) ≡ found code n
@@ -55,6 +57,13 @@ module _ (width height lines column : ℕ) (l : List ℕ) (at : ℕ) where
   pub read-end : length l ≤ at → here ≡ stopped (atEnd width height lines column)
   read-end h = ap (read-codes width height lines column) (codes-are (drop at l) none (ap codeOf (left-none l at h)))
 
+-- of equal runs the lengths are equal, and what they took
+counts : {count color other shade n m : ℕ} → found (run count color) n ≡ found (run other shade) m → count ≡ other
+counts e = cc
+
+takes : {count color other shade n m : ℕ} → found (run count color) n ≡ found (run other shade) m → n ≡ m
+takes e = cc
+
 -- the pixels from a place on
 module _ (l : List ℕ) (at : ℕ) where
   pub pixels-run : {count color n : ℕ} → codeOf (drop at l) ≡ found (run count color) n
@@ -63,6 +72,24 @@ module _ (l : List ℕ) (at : ℕ) where
 
   pub pixels-line : {n : ℕ} → codeOf (drop at l) ≡ found lineEnd n → bitmapOf (drop at l) ≡ bitmapOf (drop (at + n) l)
   pixels-line e = ap (λ (all : Codes). pixelsOf (all .codes)) (codes-after l at e)
+
+  -- the code that begins with 00 where four bytes are there, by its run; an end of line is a run of no pixels here
+  pub pixels-escape : {count color n : ℕ} → at + 3 < length l → getD l at 0 ≡ 0
+      → found (run count color) n ≡ runOf (getD l (at + 1) 0) (getD l (at + 2) 0 ∷ getD l (at + 3) 0 ∷ [])
+      → bitmapOf (drop at l) ≡ replicate count color ++ bitmapOf (drop (at + n) l)
+  pixels-escape {count} {color} {n} there escape is = go (decLt 0 second)
+    where
+      second : ℕ
+      second = getD l (at + 1) 0
+
+      go : Dec (0 < second) → bitmapOf (drop at l) ≡ replicate count color ++ bitmapOf (drop (at + n) l)
+      go (yes p) = pixels-run (code-escape l at (omega arith) escape ∙ sym (escape-among l at there (λ e. omega (arith, p, e)) is))
+      go (no p) =
+          let e : getD l (at + 1) 0 ≡ 0 = omega (arith, p) in
+          let none : found (run count color) n ≡ found (run 0 0) 2
+          = is ∙ ap (λ (s : ℕ). runOf s (getD l (at + 2) 0 ∷ getD l (at + 3) 0 ∷ [])) e in
+          pixels-line (code-escape l at (omega arith) escape ∙ sym (escape-line-end l at (omega arith) e))
+          ∙ ap₂ (λ (c m : ℕ). replicate c color ++ bitmapOf (drop (at + m) l)) (sym (counts none)) (sym (takes none))
 
   pub pixels-truncated : {k : ℕ} → codeOf (drop at l) ≡ truncated k → bitmapOf (drop at l) ≡ []
   pixels-truncated {k} e = ap (λ (all : Codes). pixelsOf (all .codes)) (codes-are (drop at l) (truncated k) e)
@@ -139,3 +166,8 @@ module _ {l : List ℕ} {width height lines column at : ℕ} {v : Verdict} where
   pub reached-end : Reached l width height lines column at v → length l ≤ at
       → atEnd width height lines column ≡ v
   reached-end r h = stops r (read-end width height lines column l at h)
+
+-- one code further on: what reading on comes to there, it comes to here
+pub reached-step : {l : List ℕ} {width height lines column at lines′ column′ at′ : ℕ} {v : Verdict} → Reached l width height lines column at v
+    → Reached l width height lines′ column′ at′ (readOn width height lines column (drop at l) .verdict) → Reached l width height lines′ column′ at′ v
+reached-step here there = record { within = there .within; few = there .few; narrow = there .narrow; same = there .same ∙ here .same }

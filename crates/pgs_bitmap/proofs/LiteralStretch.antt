@@ -14,7 +14,7 @@ use Rattle.pgs_base.specs.Outcome.{Verdict, refused}
 use Rattle.pgs_bitmap.specs.Bitmap.{readOn, readingOf}
 use Rattle.pgs_bitmap.specs.Progress.{Reached, Literals}
 use Rattle.pgs_bitmap.proofs.OneCode.{code-pixel}
-use Rattle.pgs_bitmap.proofs.BitmapSteps.{reached-start, reached-run, reached-overrun}
+use Rattle.pgs_bitmap.proofs.BitmapSteps.{reached-start, reached-run, reached-overrun, reached-step}
 
 module _ (l : List ℕ) (at : ℕ) where
   pub literals-none : Literals l at 0
@@ -103,8 +103,7 @@ module _ {l : List ℕ} {width height lines column from at : ℕ} {v : Verdict} 
   passing-overrun h =
       literals-overrun (at - from) (p .reached) (p .literals) (omega (arith, p .reached .narrow)) (omega (arith, p .order, p .within))
 
--- one code further on: what reading on comes to there, it comes to here
+-- one code further on
 pub passing-step : {l : List ℕ} {width height lines column at lines′ column′ at′ : ℕ} {v : Verdict} → Reached l width height lines column at v
     → Reached l width height lines′ column′ at′ (readOn width height lines column (drop at l) .verdict) → Passing l width height lines′ column′ at′ at′ v
-passing-step here there =
-    passing-reached (record { within = there .within; few = there .few; narrow = there .narrow; same = there .same ∙ here .same })
+passing-step here there = passing-reached (reached-step here there)

@@ -4,6 +4,7 @@ use mathlib.Core.Path.{_≡_, refl, _∙_, sym, ap, ap₂}
 use mathlib.Core.Bool.{Bool, true, false}
 use mathlib.Core.List.{List, [], _∷_}
 use Prim.Native.Nat.{ℕ, _+_, _*_, _%_, _-_, _≤_, _<_}
+use native.Mathlib.Decide.{decLt}
 use native.Mathlib.Omega.{arith}
 use lib.Dec.{ltb}
 use lib.ListN.{length, getD, drop, length-drop}
@@ -26,6 +27,20 @@ module _ (second low : ℕ) (rest : List ℕ) (is-low : low ≡ second % 64) whe
 
   pub run-long-color : 0x40 ≤ second → 0x80 ≤ second → 0xC0 ≤ second → longColorRun low rest ≡ runOf second rest
   run-long-color h k m = simp (le-ltb _ _ h, le-ltb _ _ k, le-ltb _ _ m, is-low)
+
+-- the run that takes one byte more, by its length and its color
+pub run-third : (second third : ℕ) {count color : ℕ} (rest : List ℕ) → 0x40 ≤ second → second < 0xC0
+    → (second < 0x80 → count ≡ 256 * (second % 64) + third) × (0x80 ≤ second → count ≡ second % 64)
+    → (second < 0x80 → color ≡ 0) × (0x80 ≤ second → color ≡ third) → found (run count color) 3 ≡ runOf second (third ∷ rest)
+run-third second third {count} {color} rest h k counts colors = go (decLt second 0x80)
+  where
+    go : Dec (second < 0x80) → found (run count color) 3 ≡ runOf second (third ∷ rest)
+    go (yes p) =
+        ap₂ (λ (n c : ℕ). found (run n c) 3) (counts .0 p) (colors .0 p)
+        ∙ run-long-zero second (second % 64) (third ∷ rest) refl h p
+    go (no p) =
+        ap₂ (λ (n c : ℕ). found (run n c) 3) (counts .1 (omega (arith, p))) (colors .1 (omega (arith, p)))
+        ∙ run-short-color second (second % 64) (third ∷ rest) refl h (omega (arith, p)) k
 
 -- a found code took so many bytes
 took : {code other : Code} {n m : ℕ} → found code n ≡ found other m → n ≡ m

@@ -1,11 +1,11 @@
--- How far the check of a bitmap has come, for the contracts of private functions.
+-- How far the check of a bitmap, or storing it, has come, for the contracts of private functions.
 use mathlib.Core.Path.{_≡_}
-use mathlib.Core.List.{List}
+use mathlib.Core.List.{List, _++_}
 use Prim.Native.Nat.{ℕ, _+_, _≤_, _<_}
-use lib.ListN.{length, getD, drop}
+use lib.ListN.{length, getD, take, drop}
 use Rattle.pgs_base.specs.Outcome.{Verdict, refused}
 use Rattle.pgs_base.specs.Refusals.{numberOf}
-use Rattle.pgs_bitmap.specs.Bitmap.{readOn}
+use Rattle.pgs_bitmap.specs.Bitmap.{readOn, bitmapOf}
 use Rattle.pgs_bitmap.specs.declared.bitmap.Step.{Step}
 use Rattle.pgs_bitmap.specs.declared.bitmap.Step.the-variants.{To, Refused}
 
@@ -25,3 +25,10 @@ Stepped bytes width height lines column at (Refused why) = refused (numberOf why
 -- so many bytes from a place on are nonzero, so that each is one pixel
 abbrev pub Literals : List ℕ → (at n : ℕ) → Type 0
 Literals bytes at n = (k : ℕ) → k < n → getD bytes (at + k) 0 ≡ 0 → ⊥
+
+-- The pixels of the codes before a place are stored at the front; those from the place on are still to come.
+pub record Storing (bytes now : List ℕ) (at out : ℕ) : Type 0 where
+  pub within : at ≤ length bytes
+  pub size : length now ≡ length (bitmapOf bytes)
+  pub inside : out ≤ length now
+  pub done : take out now ++ bitmapOf (drop at bytes) ≡ bitmapOf bytes

@@ -1,7 +1,9 @@
 // A bitmap from its run-length code: lines of exactly width pixels, height of them.
 use crate::code::NextCode;
+use crate::code::eight_literals;
 use crate::code::escape_at;
 use crate::code::literals_by_eight;
+use crate::code::run_of;
 use pgs_base::refusal::Refusal;
 ghost use mathlib.Core.Path.{_≡_};
 ghost use mathlib.Core.List.{_++_};
@@ -9,9 +11,9 @@ ghost use Prim.Native.Nat.{_+_, _≤_, _<_};
 ghost use lib.ListN.{length, getD, take, drop, replicate};
 ghost use Rattle.pgs_base.specs.Outcome.{unless};
 ghost use lib.Dec.{eqb};
-ghost use Rattle.pgs_bitmap.specs.Bitmap.{lastLineCounts, atEnd, readingOf, bitmapOf};
+ghost use Rattle.pgs_bitmap.specs.Bitmap.{lastLineCounts, atEnd, readOn, readingOf, bitmapOf};
 ghost use Rattle.pgs_bitmap.specs.Decoding.{outcome, Decoding};
-ghost use Rattle.pgs_bitmap.specs.Progress.{Stepped};
+ghost use Rattle.pgs_bitmap.specs.Progress.{Stepped, Literals, Storing};
 
 // What reading a bitmap comes to.
 pub enum Decoded {
@@ -106,8 +108,48 @@ fn after_escape(
     }
 }
 
-// Reads the codes through. Bytes in a row that are one pixel each, `from` to `at`, are tested together where another code or the end
-// follows them; after eight of them it looks for more by eights.
+// Reads the codes from a place on, a code at a time, with so many lines ended and so many pixels after them.
+fn check_rest(
+    data: &[u8],
+    width: usize,
+    height: usize,
+    ended: usize,
+    filled: usize,
+    from: usize,
+) -> Decoded
+    requires { ⌜ (from ≤ length (now «data»)) × (filled ≤ width) × (ended ≤ height) × (height < 65536) ⌝ }
+    ensures { λ r. ⌜ outcome r ≡ readOn width height ended filled (drop from (now («data» .entry))) .verdict ⌝ }
+{
+    let mut lines: usize = ended;
+    let mut column: usize = filled;
+    let mut at: usize = from;
+    while at < data.len() {
+        if data[at] != 0 {
+            if width <= column {
+                return Decoded::Refused(Refusal::RunPastWidth);
+            }
+            column += 1;
+            at += 1;
+        } else {
+            let step = after_escape(data, width, height, lines, column, at);
+            match step {
+                Step::To(place) => {
+                    lines = place.lines;
+                    column = place.column;
+                    at = place.at;
+                }
+                Step::Refused(why) => {
+                    return Decoded::Refused(why);
+                }
+            }
+        }
+    }
+    end_of_data(width, height, lines, column)
+}
+
+// Reads the codes through. Bytes in a row that are one pixel each, `from` to `at`, are tested together where another code or the rest
+// follows them; after eight of them it looks for more by eights. Where four bytes are left, no code has bytes missing, which makes this
+// loop fast.
 fn check_codes(data: &[u8], width: usize, height: usize) -> Decoded
     requires { ⌜ height < 65536 ⌝ }
     ensures { λ r. ⌜ outcome r ≡ readingOf (now («data» .entry)) width height .verdict ⌝ }
@@ -116,7 +158,7 @@ fn check_codes(data: &[u8], width: usize, height: usize) -> Decoded
     let mut column: usize = 0;
     let mut from: usize = 0;
     let mut at: usize = 0;
-    while at < data.len() {
+    while 4 <= data.len() - at {
         if data[at] != 0 {
             at += 1;
             if at - from == 8 {
@@ -143,7 +185,7 @@ fn check_codes(data: &[u8], width: usize, height: usize) -> Decoded
     if width - column < at - from {
         return Decoded::Refused(Refusal::RunPastWidth);
     }
-    end_of_data(width, height, lines, column + (at - from))
+    check_rest(data, width, height, lines, column + (at - from), at)
 }
 
 // Reads a bitmap through without storing it.
@@ -193,13 +235,73 @@ fn fill(pixels: &mut [u8], from: usize, count: usize, color: u8)
     }
 }
 
-// Stores the pixels of the codes, for which there is exactly room.
-fn store_rle(data: &[u8], pixels: &mut [u8])
-    requires { ⌜ length (now pixels) ≡ length (bitmapOf (now «data»)) ⌝ }
+// How far storing has come: the place of the next code, and that of its first pixel.
+struct Spot {
+    at: usize,
+    out: usize,
+}
+
+// Stores the pixel of a byte that is one pixel, and no other.
+fn store_literal(data: &[u8], at: usize, pixels: &mut [u8], out: usize) -> Spot
+    requires { ⌜ (at < length (now «data»)) × Storing (now «data») (now pixels) at out ⌝ }
+    ensures { λ r. ⌜ (at ≤ r .at) × Storing (now («data» .entry)) (now (pixels .exit)) (r .at) (r .out) ⌝ }
+{
+    let b = data[at];
+    if b != 0 {
+        pixels[out] = b;
+        return Spot {
+            at: at + 1,
+            out: out + 1,
+        };
+    }
+    Spot { at: at, out: out }
+}
+
+// Stores eight bytes that are one pixel each.
+fn store_eight(data: &[u8], at: usize, pixels: &mut [u8], out: usize)
+    requires { ⌜ (at + 8 ≤ length (now «data»)) × Literals (now «data») at 8 × Storing (now «data») (now pixels) at out ⌝ }
+    ensures { λ _. ⌜ Storing (now («data» .entry)) (now (pixels .exit)) (at + 8) (out + 8) ⌝ }
+{
+    let mut i: usize = 0;
+    while i < 8 {
+        pixels[out + i] = data[at + i];
+        i += 1;
+    }
+}
+
+// Stores the pixels of one code or more, where none has bytes missing. An end of line is stored as a run of no pixels. After a run it
+// looks for a pixel by itself, since that is what mostly follows.
+fn store_some(data: &[u8], at: usize, pixels: &mut [u8], out: usize) -> Spot
+    requires { ⌜ (at + 8 ≤ length (now «data»)) × Storing (now «data») (now pixels) at out ⌝ }
+    ensures { λ r. ⌜ (at < r .at) × Storing (now («data» .entry)) (now (pixels .exit)) (r .at) (r .out) ⌝ }
+{
+    let b = data[at];
+    if b == 0 {
+        let run = run_of(data[at + 1], data[at + 2], data[at + 3]);
+        fill(pixels, out, run.count, run.color);
+        return store_literal(data, at + run.taken, pixels, out + run.count);
+    }
+    if eight_literals(data, at) {
+        store_eight(data, at, pixels, out);
+        return Spot {
+            at: at + 8,
+            out: out + 8,
+        };
+    }
+    pixels[out] = b;
+    Spot {
+        at: at + 1,
+        out: out + 1,
+    }
+}
+
+// Stores the pixels of the codes from a place on, a code at a time.
+fn store_rest(data: &[u8], from: usize, pixels: &mut [u8], first: usize)
+    requires { ⌜ Storing (now «data») (now pixels) from first ⌝ }
     ensures { λ _. ⌜ now (pixels .exit) ≡ bitmapOf (now («data» .entry)) ⌝ }
 {
-    let mut at: usize = 0;
-    let mut out: usize = 0;
+    let mut at: usize = from;
+    let mut out: usize = first;
     while at < data.len() {
         let b = data[at];
         if b != 0 {
@@ -227,6 +329,21 @@ fn store_rle(data: &[u8], pixels: &mut [u8])
             }
         }
     }
+}
+
+// Stores the pixels of the codes, for which there is exactly room.
+fn store_rle(data: &[u8], pixels: &mut [u8])
+    requires { ⌜ length (now pixels) ≡ length (bitmapOf (now «data»)) ⌝ }
+    ensures { λ _. ⌜ now (pixels .exit) ≡ bitmapOf (now («data» .entry)) ⌝ }
+{
+    let mut at: usize = 0;
+    let mut out: usize = 0;
+    while 8 <= data.len() - at {
+        let spot = store_some(data, at, pixels, out);
+        at = spot.at;
+        out = spot.out;
+    }
+    store_rest(data, at, pixels, out);
 }
 
 // Reads a bitmap into the first width times height pixels.

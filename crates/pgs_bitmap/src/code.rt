@@ -3,7 +3,7 @@ use pgs_base::refusal::Refusal;
 ghost use mathlib.Core.Path.{_≡_};
 ghost use mathlib.Core.Bool.{true};
 ghost use mathlib.Core.List.{[], _∷_};
-ghost use Prim.Native.Nat.{_+_, _*_, _≤_, _<_};
+ghost use Prim.Native.Nat.{_+_, _*_, _%_, _≤_, _<_};
 ghost use lib.ListN.{length, getD, drop};
 ghost use Rattle.pgs_base.specs.Refusals.{numberOf};
 ghost use Rattle.pgs_bitmap.specs.RunLength.{run, found, truncated, codeOf, escapeOf, runOf};
@@ -35,10 +35,10 @@ fn wide(x: u8) -> usize
 }
 
 // A run of pixels of one color, and the bytes that its code takes.
-struct Run {
-    count: usize,
-    color: u8,
-    taken: usize,
+pub(crate) struct Run {
+    pub(crate) count: usize,
+    pub(crate) color: u8,
+    pub(crate) taken: usize,
 }
 
 // The length of a long run.
@@ -49,8 +49,26 @@ fn long_count(low: usize, third: u8) -> usize
     256 * low + wide(third)
 }
 
-// The run of 00, this second byte and, where its code takes so many, these two more.
-fn run_of(second: u8, third: u8, fourth: u8) -> Run
+// The length of the run of 00, this second byte and one more. Here and for its color the compiler chooses without a branch.
+fn third_count(second: u8, third: u8) -> usize
+    ensures { λ r. ⌜ (second < 0x80 → r ≡ 256 * (second % 64) + third) × (0x80 ≤ second → r ≡ second % 64) ⌝ }
+{
+    let low = wide(second % 64);
+    if second < 0x80 {
+        long_count(low, third)
+    } else {
+        low
+    }
+}
+
+fn third_color(second: u8, third: u8) -> u8
+    ensures { λ r. ⌜ (second < 0x80 → r ≡ 0) × (0x80 ≤ second → r ≡ third) ⌝ }
+{
+    if second < 0x80 { 0 } else { third }
+}
+
+// The run of 00, this second byte and, where its code takes so many, these two more. Runs are told apart by the bytes that they take.
+pub(crate) fn run_of(second: u8, third: u8, fourth: u8) -> Run
     ensures { λ r. ⌜ found (run (r .count) (r .color)) (r .taken) ≡ runOf second (third ∷ fourth ∷ []) ⌝ }
 {
     let low = wide(second % 64);
@@ -61,24 +79,17 @@ fn run_of(second: u8, third: u8, fourth: u8) -> Run
             taken: 2,
         };
     }
-    if second < 0x80 {
+    if 0xC0 <= second {
         return Run {
             count: long_count(low, third),
-            color: 0,
-            taken: 3,
-        };
-    }
-    if second < 0xC0 {
-        return Run {
-            count: low,
-            color: third,
-            taken: 3,
+            color: fourth,
+            taken: 4,
         };
     }
     Run {
-        count: long_count(low, third),
-        color: fourth,
-        taken: 4,
+        count: third_count(second, third),
+        color: third_color(second, third),
+        taken: 3,
     }
 }
 
@@ -167,7 +178,7 @@ pub fn next_code(data: &[u8], at: usize) -> CodeAt
 }
 
 // Whether the eight bytes from a place on are one pixel each. It tests them all, so that the compiler can test them at once.
-fn eight_literals(data: &[u8], at: usize) -> bool
+pub(crate) fn eight_literals(data: &[u8], at: usize) -> bool
     requires { ⌜ at + 8 ≤ length (now «data») ⌝ }
     ensures { λ r. ⌜ (r ≡ true → Literals (now («data» .entry)) at 8) ⌝ }
 {

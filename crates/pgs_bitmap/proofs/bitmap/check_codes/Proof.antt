@@ -10,7 +10,7 @@ use Rattle.pgs_bitmap.specs.Bitmap.{readingOf}
 use Rattle.pgs_bitmap.specs.Progress.{Reached, Stepped}
 use Rattle.pgs_bitmap.specs.declared.bitmap.Step.{Step}
 use Rattle.pgs_bitmap.specs.declared.bitmap.Step.the-variants.{To}
-use Rattle.pgs_bitmap.proofs.BitmapSteps.{reached-start, reached-end}
+use Rattle.pgs_bitmap.proofs.BitmapSteps.{reached-start}
 use Rattle.pgs_bitmap.proofs.LiteralStretch.{Passing, passing-reached, passing-pixel, passing-stretch, passing-fits, passing-overrun, passing-step}
 use Rattle.pgs_bitmap.proofs.bitmap.check_codes.Statement.{statement}
 use Rattle.pgs_bitmap.proofs.bitmap.check_codes.Tie as tie
@@ -25,7 +25,7 @@ abbrev μ-loop : tie.MeasureT-loop
 pixel : (c : tie.Then1 Inv-loop μ-loop)
     → Passing (now (c .before .before .before .before .before .args .«data»)) (c .before .before .before .before .before .args .width) (c .before .before .before .before .before .args .height) (c .before .before .before .loop .lines) (c .before .before .before .loop .column) (c .before .before .before .loop .from)
     (c .before .before .before .loop .at + 1) (readingOf (now (c .before .before .before .before .before .args .«data»)) (c .before .before .before .before .before .args .width) (c .before .before .before .before .before .args .height) .verdict)
-pixel c = passing-pixel (c .before .before .before .loop .inv) (c .before .before .loop-test .taken) (c .if1 .taken)
+pixel c = passing-pixel (c .before .before .before .loop .inv) (omega arith) (c .if1 .taken)
 
 -- the pixels before the code fit into the line
 fits : (c : tie.Else3 Inv-loop μ-loop)
@@ -46,8 +46,11 @@ moved c = subst (stepped (c .before .before .before)) (c .before .step .given .1
 loop-holds : tie.Need-loop-holds Inv-loop μ-loop
 loop-holds c = passing-reached (reached-start _ _ _)
 
+sub-loop : tie.Need-sub-loop Inv-loop μ-loop
+sub-loop c = c .loop .inv .within
+
 shared-slice-read-if1 : tie.Need-shared-slice-read-if1 Inv-loop μ-loop
-shared-slice-read-if1 c = search needs
+shared-slice-read-if1 c = omega arith
 
 add-at : tie.Need-add-at Inv-loop μ-loop
 add-at c = omega arith
@@ -89,7 +92,7 @@ add-after-escape : tie.Need-add-after-escape Inv-loop μ-loop
 add-after-escape c = omega (arith, c .before .before .before .before .loop .inv .reached .narrow)
 
 after-escape-requires : tie.Need-after-escape-requires Inv-loop μ-loop
-after-escape-requires c κs = (c .before .before .before .loop-test .taken, c .before .if1 .left, fits c .narrow, fits c .few, c .before .before .before .before .before .before .pre)
+after-escape-requires c κs = (omega arith, c .before .if1 .left, fits c .narrow, fits c .few, c .before .before .before .before .before .before .pre)
 
 enum-known-step : tie.Need-enum-known-step Inv-loop μ-loop
 enum-known-step c = search needs
@@ -115,17 +118,23 @@ sub-if4-2 c = c .before .loop .inv .order
 returns-3 : tie.Need-returns-3 Inv-loop μ-loop
 returns-3 c = passing-overrun (c .before .before .loop .inv) (c .if4 .taken)
 
-sub-end-of-data : tie.Need-sub-end-of-data Inv-loop μ-loop
-sub-end-of-data c = c .before .before .loop .inv .order
+sub-check-rest : tie.Need-sub-check-rest Inv-loop μ-loop
+sub-check-rest c = c .before .before .loop .inv .order
 
-add-end-of-data : tie.Need-add-end-of-data Inv-loop μ-loop
-add-end-of-data c = omega (arith, c .before .before .loop .inv .reached .narrow)
+add-check-rest : tie.Need-add-check-rest Inv-loop μ-loop
+add-check-rest c = omega (arith, c .before .before .loop .inv .reached .narrow)
 
-end-of-data-requires : tie.Need-end-of-data-requires Inv-loop μ-loop
-end-of-data-requires c κs = (c .before .before .loop .inv .reached .few, c .before .before .before .before .pre)
+-- the pixels before the rest fit into the line
+ends : (c : tie.Else4 Inv-loop μ-loop)
+    → Reached (now (c .before .before .before .before .args .«data»)) (c .before .before .before .before .args .width) (c .before .before .before .before .args .height) (c .before .before .loop .lines) (c .before .before .loop .column + (c .before .before .loop .at - c .before .before .loop .from)) (c .before .before .loop .at)
+    (readingOf (now (c .before .before .before .before .args .«data»)) (c .before .before .before .before .args .width) (c .before .before .before .before .args .height) .verdict)
+ends c = passing-fits (c .before .before .loop .inv) (c .if4 .left)
+
+check-rest-requires : tie.Need-check-rest-requires Inv-loop μ-loop
+check-rest-requires c κs = (ends c .within, ends c .narrow, ends c .few, c .before .before .before .before .pre)
 
 returns-4 : tie.Need-returns-4 Inv-loop μ-loop
-returns-4 c = c .end-of-data .ensures ∙ reached-end (passing-fits (c .before .before .before .loop .inv) (c .before .if4 .left)) (c .before .before .loop-test .left)
+returns-4 c = c .check-rest .ensures ∙ ends (c .before) .same
 
 pub check-codes-spec : {M : Type 1} → statement M
 check-codes-spec =
@@ -134,6 +143,7 @@ check-codes-spec =
     Inv-loop
     μ-loop
     loop-holds
+    sub-loop
     shared-slice-read-if1
     add-at
     sub-if2
@@ -157,7 +167,7 @@ check-codes-spec =
     sub-if4
     sub-if4-2
     returns-3
-    sub-end-of-data
-    add-end-of-data
-    end-of-data-requires
+    sub-check-rest
+    add-check-rest
+    check-rest-requires
     returns-4)

@@ -2,9 +2,10 @@
 use mathlib.Core.Path.{_∙_, ap}
 use mathlib.Core.List.{[], _∷_}
 use Prim.Native.Nat.{ℕ}
+use native.Mathlib.Omega.{arith}
 use borrow.Author.Needs.{needs}
 use Rattle.pgs_bitmap.specs.RunLength.{run, found}
-use Rattle.pgs_bitmap.proofs.OneCode.{run-short-zero, run-long-zero, run-short-color, run-long-color}
+use Rattle.pgs_bitmap.proofs.OneCode.{run-short-zero, run-third, run-long-color}
 use Rattle.pgs_bitmap.proofs.code.run_of.Statement.{statement}
 use Rattle.pgs_bitmap.proofs.code.run_of.Tie as tie
 
@@ -19,19 +20,17 @@ long-count-requires c κs = search needs
 
 returns-2 : tie.Need-returns-2
 returns-2 c =
-    ap (λ (n : ℕ). found (run n 0) 3) (c .long-count .ensures)
-    ∙ run-long-zero _ _ (c .before .before .before .before .args .third ∷ c .before .before .before .before .args .fourth ∷ []) (c .before .before .before .wide .ensures .0) (c .before .before .if1 .left) (c .before .if2 .taken)
+    ap (λ (n : ℕ). found (run n (c .before .before .before .before .args .fourth)) 4) (c .long-count .ensures)
+    ∙ run-long-color (c .before .before .before .before .args .second) _ (c .before .before .before .before .args .third ∷ c .before .before .before .before .args .fourth ∷ []) (c .before .before .before .wide .ensures .0) (c .before .before .if1 .left) (omega arith) (c .before .if2 .taken)
+
+third-count-requires : tie.Need-third-count-requires
+third-count-requires c κs = search needs
+
+third-color-requires : tie.Need-third-color-requires
+third-color-requires c κs = search needs
 
 returns-3 : tie.Need-returns-3
-returns-3 c = run-short-color _ _ (c .before .before .before .before .args .third ∷ c .before .before .before .before .args .fourth ∷ []) (c .before .before .before .wide .ensures .0) (c .before .before .if1 .left) (c .before .if2 .left) (c .if3 .taken)
-
-long-count-requires-2 : tie.Need-long-count-requires-2
-long-count-requires-2 c κs = search needs
-
-returns-4 : tie.Need-returns-4
-returns-4 c =
-    ap (λ (n : ℕ). found (run n (c .before .before .before .before .before .args .fourth)) 4) (c .long-count2 .ensures)
-    ∙ run-long-color _ _ (c .before .before .before .before .before .args .third ∷ c .before .before .before .before .before .args .fourth ∷ []) (c .before .before .before .before .wide .ensures .0) (c .before .before .before .if1 .left) (c .before .before .if2 .left) (c .before .if3 .left)
+returns-3 c = run-third _ _ (c .before .before .before .before .before .args .fourth ∷ []) (c .before .before .before .if1 .left) (c .before .before .if2 .left) (c .before .third-count .ensures) (c .third-color .ensures)
 
 pub run-of-spec : {M : Type 1} → statement M
 run-of-spec =
@@ -41,6 +40,6 @@ run-of-spec =
     returns
     long-count-requires
     returns-2
-    returns-3
-    long-count-requires-2
-    returns-4)
+    third-count-requires
+    third-color-requires
+    returns-3)
