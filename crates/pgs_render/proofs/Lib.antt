@@ -1,0 +1,3 @@
+pub mod PaletteLaws
+pub mod RowLaws
+pub mod PaintLaws

@@ -1,0 +1,4 @@
+// Painting a display set: 01, module 10.
+mod objects;
+mod painting;
+mod palette;
