@@ -67,8 +67,11 @@ module _ (l : List ℕ) (at : ℕ) where
   pub pixels-truncated : {k : ℕ} → codeOf (drop at l) ≡ truncated k → bitmapOf (drop at l) ≡ []
   pixels-truncated {k} e = ap (λ (all : Codes). pixelsOf (all .codes)) (codes-are (drop at l) (truncated k) e)
 
+  pub pixels-none : codeOf (drop at l) ≡ none → bitmapOf (drop at l) ≡ []
+  pixels-none e = ap (λ (all : Codes). pixelsOf (all .codes)) (codes-are (drop at l) none e)
+
   pub pixels-end : length l ≤ at → bitmapOf (drop at l) ≡ []
-  pixels-end h = ap (λ (all : Codes). pixelsOf (all .codes)) (codes-are (drop at l) none (ap codeOf (left-none l at h)))
+  pixels-end h = pixels-none (ap codeOf (left-none l at h))
 
 -- what a code at the place took of the data
 pub taken-at : (l : List ℕ) (at : ℕ) {code : Code} {n : ℕ} → at ≤ length l → codeOf (drop at l) ≡ found code n

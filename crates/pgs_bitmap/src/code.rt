@@ -6,8 +6,8 @@ ghost use mathlib.Core.List.{[], _∷_};
 ghost use Prim.Native.Nat.{_+_, _*_, _≤_, _<_};
 ghost use lib.ListN.{length, getD, drop};
 ghost use Rattle.pgs_base.specs.Refusals.{numberOf};
-ghost use Rattle.pgs_bitmap.specs.RunLength.{run, found, truncated, escapeOf, runOf};
-ghost use Rattle.pgs_bitmap.specs.NextCode.{firstCode};
+ghost use Rattle.pgs_bitmap.specs.RunLength.{run, found, truncated, codeOf, escapeOf, runOf};
+ghost use Rattle.pgs_bitmap.specs.NextCode.{firstCode, codeAt};
 ghost use Rattle.pgs_bitmap.specs.Progress.{Literals};
 
 // The code at a place of the data, with the number of bytes that it took, or why it is none.
@@ -19,6 +19,12 @@ pub enum NextCode {
     },
     LineEnd,
     Truncated(Refusal),
+}
+
+// What stands at a place of the data: nothing at its end or past it, else a code or why it is none.
+pub enum CodeAt {
+    Nothing,
+    Code(NextCode),
 }
 
 // A byte as a number; its bound spares each caller a proof.
@@ -140,6 +146,24 @@ pub(crate) fn escape_at(data: &[u8], at: usize) -> NextCode
         color: run.color,
         taken: run.taken,
     }
+}
+
+// The code at a place of the data. For a reader that cannot hold the data while it stores.
+pub fn next_code(data: &[u8], at: usize) -> CodeAt
+    ensures { λ r. ⌜ codeAt r ≡ codeOf (drop at (now («data» .entry))) ⌝ }
+{
+    if data.len() <= at {
+        return CodeAt::Nothing;
+    }
+    let b = data[at];
+    if b != 0 {
+        return CodeAt::Code(NextCode::Run {
+            count: 1,
+            color: b,
+            taken: 1,
+        });
+    }
+    CodeAt::Code(escape_at(data, at))
 }
 
 // Whether the eight bytes from a place on are one pixel each. It tests them all, so that the compiler can test them at once.

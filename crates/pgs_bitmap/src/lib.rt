@@ -1,3 +1,3 @@
 // Object bitmaps: the run-length code of 01, 'Run-length code'.
 pub mod bitmap;
-mod code;
+pub mod code;

@@ -1,0 +1,4 @@
+pub mod AheadLaws
+pub mod StoreLaws
+pub mod RoomLaws
+pub mod Answers

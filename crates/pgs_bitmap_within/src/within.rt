@@ -1,0 +1,128 @@
+// Reading a bitmap and storing its pixels further on in the same memory. The data is lent for one code at a time, so that the memory
+// can be stored to in between.
+use pgs_base::refusal::Refusal;
+use pgs_bitmap::bitmap::Decoded;
+use pgs_bitmap::bitmap::check_rle;
+use pgs_bitmap::code::CodeAt;
+use pgs_bitmap::code::NextCode;
+use pgs_bitmap::code::next_code;
+ghost use mathlib.Core.Path.{_≡_};
+ghost use Prim.Native.Nat.{_<_};
+ghost use lib.ListN.{length, replicate};
+ghost use Rattle.pgs_bitmap.specs.Bitmap.{bitmapOf};
+ghost use Rattle.pgs_bitmap_within.specs.Within.{partAt, putAt, roomFor, DecodingWithin};
+ghost use Rattle.pgs_bitmap_within.specs.Storing.{Ahead, Room};
+
+// Pixels of one color, and the bytes of data that tell them.
+struct RunAhead {
+    count: usize,
+    color: u8,
+    taken: usize,
+}
+
+// The pixels of the code at a place, none for a line end. Where there is no code there are no pixels further on, and all that is left
+// is taken.
+fn next_run(data: &[u8], from: usize) -> RunAhead
+    requires { ⌜ from < length (now «data») ⌝ }
+    ensures { λ r. ⌜ Ahead (now («data» .entry)) from r ⌝ }
+{
+    let left = data.len() - from;
+    let found = next_code(data, from);
+    let CodeAt::Code(code) = found else {
+        return RunAhead {
+            count: 0,
+            color: 0,
+            taken: left,
+        };
+    };
+    match code {
+        NextCode::Run {
+            count,
+            color,
+            taken,
+        } => RunAhead {
+            count: count,
+            color: color,
+            taken: taken,
+        },
+        NextCode::LineEnd => RunAhead {
+            count: 0,
+            color: 0,
+            taken: 2,
+        },
+        NextCode::Truncated(_) => RunAhead {
+            count: 0,
+            color: 0,
+            taken: left,
+        },
+    }
+}
+
+// Makes all pixels of a part one color.
+fn fill(pixels: &mut [u8], color: u8)
+    ensures { λ _. ⌜ now (pixels .exit) ≡ replicate (length (now (pixels .entry))) color ⌝ }
+{
+    let mut i: usize = 0;
+    while i < pixels.len() {
+        pixels[i] = color;
+        i += 1;
+    }
+}
+
+// Stores the pixels of the data, for which there is room.
+fn store_within(memory: &mut [u8], place: usize, len: usize, at: usize)
+    requires { ⌜ Room (now memory) place len at ⌝ }
+    ensures { λ _. ⌜ now (memory .exit) ≡ putAt at (length (bitmapOf (partAt (now (memory .entry)) place len))) (bitmapOf (partAt (now (memory .entry)) place len)) (now (memory .entry)) ⌝ }
+{
+    let end = place + len;
+    let mut from: usize = 0;
+    let mut out: usize = at;
+    while from < len {
+        let next = next_run(&memory[place..end], from);
+        let color = next.color;
+        let to = out + next.count;
+        fill(&mut memory[out..to], color);
+        out = to;
+        from += next.taken;
+    }
+}
+
+// Whether the pixels begin after the data and lie inside a memory of this size.
+fn room_for(size: usize, place: usize, len: usize, at: usize, need: usize) -> bool
+    ensures { λ r. ⌜ r ≡ roomFor size place len at need ⌝ }
+{
+    if at < place {
+        return false;
+    }
+    if at - place < len {
+        return false;
+    }
+    if size < at {
+        return false;
+    }
+    need <= size - at
+}
+
+// Reads the bitmap whose data stands at a place of the memory, and stores its width times height pixels from `at` on.
+pub fn decode_within(
+    memory: &mut [u8],
+    place: usize,
+    len: usize,
+    width: u16,
+    height: u16,
+    at: usize,
+) -> Decoded
+    ensures { λ r. ⌜ DecodingWithin (now (memory .entry)) place len width height at r (now (memory .exit)) ⌝ }
+{
+    let need = (width as usize) * (height as usize);
+    if !room_for(memory.len(), place, len, at, need) {
+        return Decoded::Refused(Refusal::BufferTooSmall);
+    }
+    let end = place + len;
+    let checked = check_rle(&memory[place..end], width, height);
+    let Decoded::Accepted = checked else {
+        return checked;
+    };
+    store_within(memory, place, len, at);
+    Decoded::Accepted
+}
