@@ -1,3 +1,5 @@
 pub mod PaletteLaws
 pub mod RowLaws
 pub mod PaintLaws
+pub mod ShownLaws
+pub mod StoreLaws

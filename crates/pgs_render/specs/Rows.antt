@@ -1,11 +1,12 @@
 -- The records of objects and placements that painting keeps. Private contracts cite these; that of `render` cites `Rendering`.
 use mathlib.Core.Bool.{Bool, true, false}
-use mathlib.Core.List.{List, [], _∷_}
-use Prim.Native.Nat.{ℕ, _+_, _*_, _<_}
+use mathlib.Core.Path.{_≡_}
+use mathlib.Core.List.{List, [], _∷_, _++_}
+use Prim.Native.Nat.{ℕ, _+_, _*_, _≤_, _<_}
 use lib.Dec.{eqb}
-use lib.ListN.{getD, take, drop}
+use lib.ListN.{length, getD, take, drop}
 use Rattle.pgs_base.specs.Outcome.{Verdict, accepted, andThen, pick}
-use Rattle.pgs_bitmap.specs.Bitmap.{readingOf}
+use Rattle.pgs_bitmap.specs.Bitmap.{readingOf, bitmapOf}
 use Rattle.pgs_plane.specs.Placing.{Image, imageOf}
 use Rattle.pgs_segment.specs.declared.pcs.CompositionObjectCrop.{CompositionObjectCrop}
 use Rattle.pgs_segment.specs.declared.pcs.Cropping.{Cropping}
@@ -82,3 +83,16 @@ placementIn r =
       «object_vertical_position» = getD r 4 0;
       cropping = croppingIn r;
     }
+
+-- data that is not in the stream stands in the scratch before a place
+pub record Held (r : List ℕ) (at : ℕ) : Type 0 where
+  pub holder : (getD r 4 0 ≡ 0 → ⊥) → getD r 4 0 ≡ 1
+  pub before : (getD r 4 0 ≡ 0 → ⊥) → getD r 5 0 + getD r 6 0 ≤ at
+
+-- what storing an object's bitmap from `at` on needs
+pub record Storable (s r : List ℕ) (at : ℕ) (scratch : List ℕ) : Type 0 where
+  pub narrow : getD r 2 0 < 65536
+  pub low : getD r 3 0 < 65536
+  pub room : at + rowArea r ≤ length scratch
+  pub held : Held r at
+  pub reads : readingOf (shownBy s scratch r) (getD r 2 0) (getD r 3 0) .verdict ≡ accepted

@@ -2,3 +2,4 @@
 mod objects;
 mod painting;
 mod palette;
+mod storing;
