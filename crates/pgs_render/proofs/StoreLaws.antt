@@ -1,13 +1,13 @@
 -- A bitmap stored in the scratch, from data in the stream or before it in the scratch. Assumes nothing.
 use mathlib.Core.Path.{_≡_, refl, sym, ap, _∙_}
-use mathlib.Core.Bool.{Bool, true, _&&_}
-use mathlib.Core.List.{List, [], _∷_, _++_, append-nil}
+use mathlib.Core.Bool.{Bool, true, false, _&&_}
+use mathlib.Core.List.{List, [], _∷_, _++_, append-nil, append-assoc}
 use Prim.Native.Nat.{ℕ, _+_, _-_, _*_, _≤_, _<_}
 use native.Mathlib.Omega.{arith}
-use borrow.Author.Tests.{eq-eqb, le-leb}
+use borrow.Author.Tests.{eq-eqb, eqb-true, le-leb}
 use lib.Dec.{leb, eqb}
-use lib.ListN.{length, take, drop, getD, length-drop, drop-of-length-le}
-use lib.Seq.{drop-drop}
+use lib.ListN.{length, take, drop, getD, length-append, length-drop, drop-of-length-le, take-append-drop}
+use lib.Seq.{drop-drop, drop-at, take-at, take-take, take-append-le, length-take-le}
 use Rattle.pgs_base.specs.Outcome.{Verdict, accepted, andThen, unless, laid, pick}
 use Rattle.pgs_bitmap.specs.Bitmap.{readingOf, bitmapOf}
 use Rattle.pgs_bitmap.specs.Decoding.{decodeVerdict, Decoding}
@@ -15,8 +15,11 @@ use Rattle.pgs_bitmap.specs.declared.bitmap.Decoded.{Decoded}
 use Rattle.pgs_bitmap.proofs.BitmapArea.{bitmap-area}
 use Rattle.pgs_bitmap_within.specs.Within.{partAt, putAt, changed, withinVerdict, DecodingWithin}
 use Rattle.pgs_set.specs.Reassembly.{partOf, shownBy}
+use Rattle.pgs_base.proofs.Lists.{drop-take}
+use Rattle.pgs_base.proofs.Outcomes.{first-accepts, second-holds}
+use Rattle.pgs_set.proofs.Lists.{drop-next}
 use Rattle.pgs_set.proofs.ViewLaws.{part-whole, shows-scratch}
-use Rattle.pgs_render.specs.Rows.{rowArea, Held, Storable}
+use Rattle.pgs_render.specs.Rows.{rowArea, rowsArea, rowsReading, rowsBitmaps, Held, Storable, AllStorable}
 use Rattle.pgs_render.proofs.PaintLaws.{lent-part}
 
 -- data in the stream is shown with any scratch
@@ -78,3 +81,139 @@ module _ (s r : List ℕ) (at : ℕ) (scratch : List ℕ) (st : Storable s r at 
           andThen
           (unless 34 (le-leb (getD r 5 0 + getD r 6 0) at (st .held .before away) j && le-leb (at + getD r 2 0 * getD r 3 0) (length scratch) (st .room) j))
           (ok j)
+
+-- data before a place is shown alike by scratches that are alike before it
+shown-same : (s x y r : List ℕ) (at : ℕ) → Held r at → take at x ≡ take at y → at ≤ length x → at ≤ length y → shownBy s x r ≡ shownBy s y r
+shown-same s x y r at held e hx hy = go (eqb (getD r 4 0) 0) refl
+  where
+    go : (b : Bool) → eqb (getD r 4 0) 0 ≡ b → shownBy s x r ≡ shownBy s y r
+    go true q = shown-stream s x y r (eqb-true (getD r 4 0) 0 q)
+    go false q =
+        sym (shown-scratch s x r at held away hx)
+        ∙ sym (drop-take (getD r 5 0) (getD r 6 0) x (omega (arith, held .before away)))
+        ∙ ap (drop (getD r 5 0)) (sym (take-take (getD r 5 0 + getD r 6 0) at x (held .before away)) ∙ ap (take (getD r 5 0 + getD r 6 0)) e ∙ take-take (getD r 5 0 + getD r 6 0) at y (held .before away))
+        ∙ drop-take (getD r 5 0) (getD r 6 0) y (omega (arith, held .before away))
+        ∙ shown-scratch s y r at held away hy
+      where
+        away : getD r 4 0 ≡ 0 → ⊥
+        away z = let t : true ≡ false = sym (eq-eqb (getD r 4 0) 0 z) ∙ q in let n : _≡_ {A = ℕ} 0 1 = cc in omega arith
+
+-- new bytes put at a place
+module _ (l new : List ℕ) (at size : ℕ) (fits : at + size ≤ length l) (long : length new ≡ size) where
+  head-long : length (take at l ++ new) ≡ at + size
+  head-long = length-append (take at l) new ∙ (λ j. length-take-le at l inside j + long j)
+    where
+      inside : at ≤ length l
+      inside = omega arith
+
+  put-split : take at l ++ (new ++ drop (at + size) l) ≡ (take at l ++ new) ++ drop (at + size) l
+  put-split = sym (append-assoc (take at l) new (drop (at + size) l))
+
+  put-take : take (at + size) (take at l ++ (new ++ drop (at + size) l)) ≡ take at l ++ new
+  put-take = ap (take (at + size)) put-split ∙ take-at (take at l ++ new) (drop (at + size) l) (at + size) head-long
+
+  put-drop : drop (at + size) (take at l ++ (new ++ drop (at + size) l)) ≡ drop (at + size) l
+  put-drop = ap (drop (at + size)) put-split ∙ drop-at (take at l ++ new) (drop (at + size) l) (at + size) head-long
+
+  put-front : (from : ℕ) → from ≤ at → take from (take at l ++ (new ++ drop (at + size) l)) ≡ take from l
+  put-front from h = take-append-le from (take at l) (new ++ drop (at + size) l) (rw (length-take-le at l (omega arith)) h) ∙ take-take from at l h
+
+-- i bitmaps are stored, and the next one goes to `at`
+pub record Storing (s : List ℕ) (rows : List (List ℕ)) (from : ℕ) (start now : List ℕ) (i at : ℕ) : Type 0 where
+  pub within : i ≤ length rows
+  pub place : at + rowsArea (drop i rows) ≡ from + rowsArea rows
+  pub past : from ≤ at
+  pub same : length now ≡ length start
+  pub front : take from now ≡ take from start
+  pub left : take at now ++ (rowsBitmaps s start (drop i rows) ++ drop (from + rowsArea rows) now)
+      ≡ take from start ++ (rowsBitmaps s start rows ++ drop (from + rowsArea rows) start)
+  pub reads : rowsReading s start (drop i rows) ≡ accepted
+
+module _ (s : List ℕ) (rows : List (List ℕ)) (from : ℕ) (start : List ℕ) (all : AllStorable s rows from start) where
+  pub storing : Storing s rows from start start 0 from
+  storing = record { within = omega arith; place = refl; past = omega arith; same = refl; front = refl; left = refl; reads = all .reads }
+
+  module _ {now : List ℕ} {i at : ℕ} (c : Storing s rows from start now i at) where
+    module _ (m : i < length rows) where
+      alike : shownBy s now (getD rows i []) ≡ shownBy s start (getD rows i [])
+      alike = shown-same s now start (getD rows i []) from (all .held i) (c .front) (omega (arith, all .room, c .same)) (omega (arith, all .room))
+
+      split : rowsArea (drop i rows) ≡ rowArea (getD rows i []) + rowsArea (drop (i + 1) rows)
+      split = ap rowsArea (drop-next rows i [] m)
+
+      pub stores-within : at + rowArea (getD rows i []) ≤ length now
+      stores-within = omega (arith, split, c .place, c .same, all .room)
+
+      ok : andThen (readingOf (shownBy s start (getD rows i [])) (getD (getD rows i []) 2 0) (getD (getD rows i []) 3 0) .verdict) (rowsReading s start (drop (i + 1) rows)) ≡ accepted
+      ok = ap (rowsReading s start) (sym (drop-next rows i [] m)) ∙ c .reads
+
+      its-reading : readingOf (shownBy s now (getD rows i [])) (getD (getD rows i []) 2 0) (getD (getD rows i []) 3 0) .verdict ≡ accepted
+      its-reading =
+          ap (λ (b : List ℕ). readingOf b (getD (getD rows i []) 2 0) (getD (getD rows i []) 3 0) .verdict) alike
+          ∙ first-accepts (readingOf (shownBy s start (getD rows i [])) (getD (getD rows i []) 2 0) (getD (getD rows i []) 3 0) .verdict) (rowsReading s start (drop (i + 1) rows)) ok
+
+      pub stores-one : Storable s (getD rows i []) at now
+      stores-one =
+          record {
+            narrow = all .narrow i .0;
+            low = all .narrow i .1;
+            room = stores-within;
+            held = record { holder = all .held i .holder; before = λ a. let b = all .held i .before a in omega (arith, b, c .past) };
+            reads = its-reading;
+          }
+
+      pub stores-on : {now′ : List ℕ}
+          → now′ ≡ take at now ++ (bitmapOf (shownBy s now (getD rows i [])) ++ drop (at + rowArea (getD rows i [])) now)
+          → length now′ ≡ length now
+          → Storing s rows from start now′ (i + 1) (at + rowArea (getD rows i []))
+      stores-on {now′} e long =
+          record {
+            within = omega arith;
+            place = omega (arith, split, c .place);
+            past = omega (arith, c .past);
+            same = long ∙ c .same;
+            front = ap (take from) e ∙ put-front now new at area fits size from (c .past) ∙ c .front;
+            left =
+                (λ j. first j ++ (rowsBitmaps s start (drop (i + 1) rows) ++ behind j))
+                ∙ append-assoc (take at now) new (rowsBitmaps s start (drop (i + 1) rows) ++ drop (from + rowsArea rows) now)
+                ∙ ap (λ (l : List ℕ). take at now ++ l) (sym (append-assoc new (rowsBitmaps s start (drop (i + 1) rows)) (drop (from + rowsArea rows) now)))
+                ∙ (λ j. take at now ++ ((bitmapOf (alike j) ++ rowsBitmaps s start (drop (i + 1) rows)) ++ drop (from + rowsArea rows) now))
+                ∙ ap (λ (rs : List (List ℕ)). take at now ++ (rowsBitmaps s start rs ++ drop (from + rowsArea rows) now)) (sym (drop-next rows i [] m))
+                ∙ c .left;
+            reads = second-holds (readingOf (shownBy s start (getD rows i [])) (getD (getD rows i []) 2 0) (getD (getD rows i []) 3 0) .verdict) (rowsReading s start (drop (i + 1) rows)) ok;
+          }
+        where
+          new : List ℕ
+          new = bitmapOf (shownBy s now (getD rows i []))
+
+          area : ℕ
+          area = rowArea (getD rows i [])
+
+          fits : at + area ≤ length now
+          fits = stores-within
+
+          size : length new ≡ area
+          size = bitmap-area (shownBy s now (getD rows i [])) (getD (getD rows i []) 2 0) (getD (getD rows i []) 3 0) its-reading
+
+          first : take (at + area) now′ ≡ take at now ++ new
+          first = ap (take (at + area)) e ∙ put-take now new at area fits size
+
+          far : at + area + rowsArea (drop (i + 1) rows) ≡ from + rowsArea rows
+          far = omega (arith, split, c .place)
+
+          behind : drop (from + rowsArea rows) now′ ≡ drop (from + rowsArea rows) now
+          behind =
+              ap (λ (n : ℕ). drop n now′) (sym far)
+              ∙ sym (drop-drop (rowsArea (drop (i + 1) rows)) (at + area) now′)
+              ∙ ap (drop (rowsArea (drop (i + 1) rows))) (ap (drop (at + area)) e ∙ put-drop now new at area fits size)
+              ∙ drop-drop (rowsArea (drop (i + 1) rows)) (at + area) now
+              ∙ ap (λ (n : ℕ). drop n now) far
+
+    pub stored-all : length rows ≤ i → now ≡ take from start ++ (rowsBitmaps s start rows ++ drop (from + rowsArea rows) start)
+    stored-all h = sym (take-append-drop at now) ∙ (λ j. take at now ++ drop (end j) now) ∙ ap (λ (rs : List (List ℕ)). take at now ++ (rowsBitmaps s start rs ++ drop (from + rowsArea rows) now)) (sym none) ∙ c .left
+      where
+        none : drop i rows ≡ []
+        none = drop-of-length-le rows h
+
+        end : at ≡ from + rowsArea rows
+        end = omega (arith, c .place, ap rowsArea none)

@@ -96,3 +96,15 @@ pub record Storable (s r : List ℕ) (at : ℕ) (scratch : List ℕ) : Type 0 wh
   pub room : at + rowArea r ≤ length scratch
   pub held : Held r at
   pub reads : readingOf (shownBy s scratch r) (getD r 2 0) (getD r 3 0) .verdict ≡ accepted
+
+-- the bitmaps of objects, whose data their records show
+abbrev pub rowsBitmaps : List ℕ → List ℕ → List (List ℕ) → List ℕ
+rowsBitmaps s scratch [] = []
+rowsBitmaps s scratch (r ∷ rs) = bitmapOf (shownBy s scratch r) ++ rowsBitmaps s scratch rs
+
+-- what storing the bitmaps from `at` on needs: their data is before it, and each was read through
+pub record AllStorable (s : List ℕ) (rows : List (List ℕ)) (at : ℕ) (scratch : List ℕ) : Type 0 where
+  pub narrow : Narrow rows
+  pub room : at + rowsArea rows ≤ length scratch
+  pub held : (i : ℕ) → Held (getD rows i []) at
+  pub reads : rowsReading s scratch rows ≡ accepted
