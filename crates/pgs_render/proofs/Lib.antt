@@ -3,3 +3,4 @@ pub mod RowLaws
 pub mod PaintLaws
 pub mod ShownLaws
 pub mod StoreLaws
+pub mod ObjectLaws
