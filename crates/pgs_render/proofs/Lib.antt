@@ -4,3 +4,4 @@ pub mod PaintLaws
 pub mod ShownLaws
 pub mod StoreLaws
 pub mod ObjectLaws
+pub mod NarrowLaws
