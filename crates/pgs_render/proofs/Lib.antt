@@ -5,3 +5,4 @@ pub mod ShownLaws
 pub mod StoreLaws
 pub mod ObjectLaws
 pub mod NarrowLaws
+pub mod ColorLaws
