@@ -9,22 +9,22 @@ use lib.Dec.{ltb, eqb}
 use lib.ListN.{length, take, drop, getD, length-map}
 use lib.Seq.{length-take-le}
 use Rattle.pgs_base.specs.Outcome.{Verdict, accepted, refused, Outcome, gives, refuses, outcomeOf, andThen, unless, laid, Delivered, pick}
-use Rattle.pgs_segment.specs.Header.{headerFields}
+use Rattle.pgs_segment.specs.Header.{headerFields, ptsOf}
 use Rattle.pgs_segment.specs.OneSegment.{segmentType, usedBy}
 use Rattle.pgs_segment.specs.Stream.{Reading, stepVerdict}
 use Rattle.pgs_segment.proofs.StreamLaws.{read-stops}
 use Rattle.pgs_segment.specs.declared.header.SegmentHeader.{SegmentHeader}
-use Rattle.pgs_base.proofs.Outcomes.{gave, gave-value, turned-down, delivers-short, delivers-all}
+use Rattle.pgs_base.proofs.Outcomes.{gave, gave-value, turned-down, gives-as, refuses-as, delivers-short, delivers-all}
 use Rattle.pgs_set.proofs.Choices.{pick-first, pick-second}
 use Rattle.pgs_set.proofs.FragmentLaws.{none-left, left-same, left-next}
 use Rattle.pgs_set.proofs.ListingLaws.{rows-verdict, rows-joined, rows-records}
-use Rattle.pgs_set.proofs.SetLaws.{size-read, outside-here, opens-here, set-here}
-use Rattle.pgs_set.proofs.WalkLaws.{pieces-here, piece-length}
-use Rattle.pgs_set.specs.Objects.{Fragment, Chain, isOds, fragmentAt, fragmentsFrom, idOf, opensChain, withId, joined, chainsOf, objectId, dataOf, chainsVerdict, fragmentsVerdict, verdictAfter, fragmentsOf, setNumber, objectsOf, objectsVerdictWithin}
+use Rattle.pgs_set.proofs.SetLaws.{size-read, outside-here, opens-here, set-here, set-ends, ends-read}
+use Rattle.pgs_set.proofs.WalkLaws.{pieces-here, piece-length, head-field}
+use Rattle.pgs_set.specs.Objects.{Fragment, Chain, isOds, fragmentAt, fragmentsFrom, idOf, opensChain, withId, joined, chainsOf, objectId, dataOf, chainsVerdict, fragmentsVerdict, verdictAfter, fragmentsOf, setNumber, setVerdict, objectsOf, objectsVerdictWithin}
 use Rattle.pgs_set.specs.Reassembly.{copied, copiedData, joinedData, rowsFrom, objectRows, Reassembled}
-use Rattle.pgs_set.specs.Sets.{isEnd, throughEnd, setCount, setsVerdict}
+use Rattle.pgs_set.specs.Sets.{DisplaySet, isEnd, throughEnd, setRow, setCount, setsVerdict}
 use Rattle.pgs_set.specs.Tables.{chainRow, total, Holds, FoundChains, Rows, Gathered, rowsVerdict, joinedIn, recordsFrom, rowData, rowBytes, joinedRows, Measured}
-use Rattle.pgs_set.specs.Walks.{piecesAt, fragmentsLeft, InSet, SetStands}
+use Rattle.pgs_set.specs.Walks.{piecesAt, fragmentsLeft, InSet, Ends, setAt, SetStands, FoundSet}
 
 -- a chain's first fragment is the ODS at its place, and the fragments of its id from there on have its data
 pub record Begins (s : List ℕ) (c : Chain) : Type 0 where
@@ -272,6 +272,43 @@ module _ (s : List ℕ) (k : ℕ) {r : ℕ} (st : SetStands s k r) where
     pub set-verdict : (limit : ℕ) → setsVerdict s ≡ accepted → k < setCount s
         → objectsVerdictWithin limit k s ≡ fragmentsVerdict limit (fragmentsLeft s (r + (13 + h .«segment_size»)))
     set-verdict limit a m = λ j. andThen (a j) (andThen (unless 36 (lt-ltb k (setCount s) m j)) (fragmentsVerdict limit (set-fragments j)))
+
+    -- its record
+    pub set-row : {end : ℕ} → Ends s (r + (13 + h .«segment_size»)) end → setRow (setNumber k s) ≡ r ∷ end ∷ h .pts ∷ []
+    set-row {end} x =
+        ap setRow (sym (st .found))
+        ∙ (λ j.
+        ap (λ (d : DisplaySet). d .place) its j
+        ∷ sym (set-ends s (st .standing) (st .more) (ends-read s r e x)) j
+        ∷ (ap (λ (d : DisplaySet). ptsOf (d .opening)) its ∙ head-field 4 2 (drop r s) stands-here (omega arith) ∙ sym (ap (λ (a : SegmentHeader). a .pts) e)) j
+        ∷ [])
+      where
+        its : setAt s r
+            ≡ record { place = r; opening = take (usedBy (drop r s)) (drop r s); others = throughEnd (piecesAt s (r + usedBy (drop r s))) }
+        its = set-here s (st .standing) (st .more)
+
+    pub finds-set : setsVerdict s ≡ accepted → k < setCount s → {end : ℕ} → Ends s (r + (13 + h .«segment_size»)) end
+        → FoundSet s k (gives (r ∷ end ∷ h .pts ∷ []))
+    finds-set a m {end} x =
+        record {
+          answered = gives-as (λ j. andThen (a j) (unless 36 (lt-ltb k (setCount s) m j))) (sym (set-row x));
+          stands = λ place end′ pts q. let p : r ≡ place = cc in subst (λ (n : ℕ). SetStands s k n) p st;
+        }
+
+-- there is no such set
+module _ (s : List ℕ) (k : ℕ) where
+  finds-none : {n : ℕ} → setVerdict k s ≡ refused n → FoundSet s k (refuses n)
+  finds-none e =
+      record {
+        answered = refuses-as (setRow (setNumber k s)) e;
+        stands = λ place end pts q. absurd (let z : _≡_ {A = ℕ} 0 1 = cc in omega arith);
+      }
+
+  pub finds-no-sets : {n : ℕ} → setsVerdict s ≡ refused n → FoundSet s k (refuses n)
+  finds-no-sets e = finds-none (ap (λ (v : Verdict). andThen v (unless 36 (ltb k (setCount s)))) e)
+
+  pub finds-past : setsVerdict s ≡ accepted → setCount s ≤ k → FoundSet s k (refuses 36)
+  finds-past a h = finds-none (λ j. andThen (a j) (unless 36 (le-ltb k (setCount s) h j)))
 
 -- the refusals before
 module _ (limit k : ℕ) (s : List ℕ) {cs : List Chain} {table : List (List ℕ)} where

@@ -120,11 +120,14 @@ module _ (s : List ℕ) where
       go true (suc k) ih = ih k after
       go false k ih = ih k after
 
+-- so those of a set of a number
+pub objects-begin : (k : ℕ) (s : List ℕ) → AllBegin s (objectsOf k s)
+unfolding objectsOf setsOf
+objects-begin k s = sets-begin s (piecesAt s 0) 0 k refl
+
 -- the records of a set's objects show their data, in the stream and in a scratch that begins with the joined data
 pub shown-data : (k : ℕ) (s rest : List ℕ) → map (shownBy s (joinedData (objectsOf k s) ++ rest)) (objectRows (objectsOf k s)) ≡ map dataOf (objectsOf k s)
-unfolding objectsOf setsOf
-shown-data k s rest =
-    shown-from s (objectsOf k s) (sets-begin s (piecesAt s 0) 0 k refl) [] rest
+shown-data k s rest = shown-from s (objectsOf k s) (objects-begin k s) [] rest
 
 -- so after an accepted call
 pub shown-after : (k : ℕ) (s : List ℕ) (v : Verdict) {list list′ : List (List ℕ)} {scratch scratch′ : List ℕ} {n : ℕ}

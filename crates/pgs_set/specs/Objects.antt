@@ -174,6 +174,10 @@ noSet = record { place = 0; opening = []; others = [] }
 abbrev pub setNumber : ℕ → List ℕ → DisplaySet
 setNumber k s = getD (setsOf s) k noSet
 
+-- whether there is one: 1 to 15, then 36: "set number at or past the count"
+abbrev pub setVerdict : ℕ → List ℕ → Verdict
+setVerdict k s = andThen (setsVerdict s) (unless 36 (ltb k (setCount s)))
+
 -- its objects
 unfoldable pub objectsOf : ℕ → List ℕ → List Chain
 objectsOf k s = chainsOf (fragmentsOf (setNumber k s))

@@ -3,14 +3,17 @@
 use Prim.Native.Nat.{ℕ, _+_, _≤_, _<_}
 use mathlib.Core.Path.{_≡_}
 use mathlib.Core.Bool.{Bool}
-use mathlib.Core.List.{List, []}
+use mathlib.Core.List.{List, [], _∷_}
 use lib.ListN.{length, drop, getD}
-use Rattle.pgs_base.specs.Outcome.{accepted}
+use Rattle.pgs_base.specs.Outcome.{accepted, Outcome, gives, refuses, outcomeOf}
+use Rattle.pgs_base.specs.Refusals.{numberOf}
 use Rattle.pgs_segment.specs.Stream.{readOf, streamVerdict}
-use Rattle.pgs_set.specs.Objects.{noSet, setNumber, Fragment, fragmentsFrom}
-use Rattle.pgs_set.specs.Sets.{DisplaySet, groupVerdict, setsFrom, throughEnd, bytesIn}
+use Rattle.pgs_set.specs.Objects.{noSet, setNumber, setVerdict, Fragment, fragmentsFrom}
+use Rattle.pgs_set.specs.Sets.{DisplaySet, groupVerdict, setsFrom, throughEnd, bytesIn, setRow}
 use Rattle.pgs_set.specs.declared.grouping.Grouping.{Grouping}
 use Rattle.pgs_set.specs.declared.grouping.Grouping.the-variants.{Outside, Inside}
+use Rattle.pgs_set.specs.declared.set.SetAnswer.{SetAnswer}
+use Rattle.pgs_set.specs.declared.set.SetAnswer.the-variants as records
 
 -- the segments from a place on
 abbrev pub piecesAt : List ℕ → ℕ → List (List ℕ)
@@ -47,6 +50,15 @@ pub record SetStands (s : List ℕ) (k r : ℕ) : Type 0 where
   pub standing : Standing Outside s r
   pub more : r < length s
   pub found : setAt s r ≡ setNumber k s
+
+abbrev pub setOutcome : SetAnswer → Outcome (List ℕ)
+setOutcome (records.Set place end pts) = gives (place ∷ end ∷ pts ∷ [])
+setOutcome (records.Refused r) = refuses (numberOf r)
+
+-- finding set number k, with this answer: its record, and where its PCS stands
+pub record FoundSet (s : List ℕ) (k : ℕ) (answer : Outcome (List ℕ)) : Type 0 where
+  pub answered : answer ≡ outcomeOf (setVerdict k s) (setRow (setNumber k s))
+  pub stands : (place end pts : ℕ) → answer ≡ gives (place ∷ end ∷ pts ∷ []) → SetStands s k place
 
 -- the fragments from a place on in the set that is open there
 abbrev pub fragmentsLeft : List ℕ → ℕ → List Fragment

@@ -24,11 +24,17 @@ ghost use Rattle.pgs_set.specs.Sets.{
   setsVerdict,
   setsOutcome,
 };
-ghost use Rattle.pgs_set.specs.Walks.{InSet, Ends, SetStands};
+ghost use Rattle.pgs_set.specs.Walks.{InSet, Ends, SetStands, FoundSet, setOutcome};
 
 // How many sets a stream has, or why it is refused.
 pub enum SetsAnswer {
     Sets(usize),
+    Refused(Refusal),
+}
+
+// The record of one set (place of its PCS, place just after its END, PTS of the PCS), or why there is none.
+pub enum SetAnswer {
+    Set(usize, usize, u32),
     Refused(Refusal),
 }
 
@@ -182,6 +188,24 @@ pub fn parse_display_sets(s: &[u8], sets: &mut [[u64; 3]]) -> SetsAnswer
             }
             fill_sets(s, n, sets);
             SetsAnswer::Sets(n)
+        }
+    }
+}
+
+// The record of set number k.
+pub fn find_set(s: &[u8], k: usize) -> SetAnswer
+    ensures { λ r. ⌜ FoundSet (now (s .entry)) k (setOutcome r) ⌝ }
+{
+    match group_display_sets(s) {
+        SetsAnswer::Refused(why) => SetAnswer::Refused(why),
+        SetsAnswer::Sets(n) => {
+            if n <= k {
+                return SetAnswer::Refused(Refusal::NoSuchSet);
+            }
+            let place = set_place(s, k);
+            let header = header_at(s, place);
+            let end = set_end(s, place + (13 + header.segment_size as usize));
+            SetAnswer::Set(place, end, header.pts)
         }
     }
 }

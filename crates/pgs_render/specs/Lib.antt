@@ -1,0 +1,4 @@
+pub mod Palettes
+pub mod Images
+pub mod Rendering
+pub mod Rows

@@ -1,0 +1,5 @@
+// Painting a display set: 01, module 10.
+mod objects;
+mod painting;
+mod palette;
+mod storing;
