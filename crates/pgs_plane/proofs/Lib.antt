@@ -4,3 +4,4 @@ pub mod PlaneLaws
 pub mod ClipLaws
 pub mod CallLaws
 pub mod LastWins
+pub mod LastCovering

@@ -15,7 +15,7 @@ Picture = (x y : ℕ) → List ℕ
 abbrev pub Layer : Type 0
 Layer = (x y : ℕ) → Option ℕ
 
--- "Pixels are R, G, B, alpha, row by row."
+-- "Pixels are R, G, B, alpha, row by row." "Parts beyond plane or object are skipped": a plane has no others.
 unfoldable pub planeOf : Picture → (width height : ℕ) → List ℕ
 planeOf f width height = strip (λ y. strip (λ x. f x y) 0 width) 0 height
 
@@ -36,7 +36,7 @@ rowPainted color layer width y row = pieces (λ x below. colorOver color below (
 unfoldable pub painted : (ℕ → List ℕ) → Layer → (width height : ℕ) → List ℕ → List ℕ
 painted color layer width height plane = pieces (rowPainted color layer width) (4 * width) 0 height plane ++ drop (4 * width * height) plane
 
--- the placement that a pixel shows, as its number among the placements, and its bitmap's index there
+-- the placement that a pixel shows, as its number among the placements, from 0, and its bitmap's index there
 pub record Covering : Type 0 where
   pub number : ℕ
   pub index : ℕ
@@ -69,7 +69,7 @@ planeShown color look ps width height = planeOf (λ x y. colorOver color transpa
 abbrev pub cleared : (width height : ℕ) → List ℕ → List ℕ
 cleared width height plane = planeOf (λ x y. transparent) width height ++ drop (4 * width * height) plane
 
--- placements painted in order
+-- placements painted in order; that this on a cleared plane is `planeShown` is the law `last-wins`
 abbrev pub paintedAll : (ℕ → List ℕ) → (ℕ → Image) → List CompositionObject → (width height : ℕ) → List ℕ → List ℕ
 paintedAll color look [] width height plane = plane
 paintedAll color look (p ∷ ps) width height plane =
