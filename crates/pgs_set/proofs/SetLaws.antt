@@ -133,7 +133,7 @@ module _ (s : List ℕ) where
         λ j. outcomeOf ((ap (groupVerdict g) (sym none) ∙ c .verdict) j) (all j)
 
 -- a set that is open goes on after a segment that is no END
-goes-on : (w : Bool) (t : SegmentType) → isEnd t ≡ false → (w′ : Bool) × (stateAfter (Inside w) t ≡ Inside w′)
+pub goes-on : (w : Bool) (t : SegmentType) → isEnd t ≡ false → (w′ : Bool) × (stateAfter (Inside w) t ≡ Inside w′)
 goes-on w Pcs e = (false, refl)
 goes-on w Wds e = (true, refl)
 goes-on w Pds e = (w, refl)
@@ -141,7 +141,7 @@ goes-on w Ods e = (w, refl)
 goes-on w End e = absurd (let z : _≡_ {A = ℕ} 0 1 = cc in omega arith)
 goes-on w (Other v) e = (w, refl)
 
-closes : (g : Grouping) (t : SegmentType) → isEnd t ≡ true → stateAfter g t ≡ Outside
+pub closes : (g : Grouping) (t : SegmentType) → isEnd t ≡ true → stateAfter g t ≡ Outside
 closes g Pcs e = cc
 closes g Wds e = cc
 closes g Pds e = cc
@@ -150,7 +150,7 @@ closes g End e = refl
 closes g (Other v) e = cc
 
 -- no PCS stands in an open set, and nothing else stands outside
-no-pcs : (w : Bool) (t : SegmentType) → kindVerdict (Inside w) t ≡ accepted → isPcs t ≡ false
+pub no-pcs : (w : Bool) (t : SegmentType) → kindVerdict (Inside w) t ≡ accepted → isPcs t ≡ false
 no-pcs w Pcs e = cc
 no-pcs w Wds e = refl
 no-pcs w Pds e = refl
@@ -158,7 +158,7 @@ no-pcs w Ods e = refl
 no-pcs w End e = refl
 no-pcs w (Other v) e = refl
 
-only-pcs : (t : SegmentType) → kindVerdict Outside t ≡ accepted → t ≡ Pcs
+pub only-pcs : (t : SegmentType) → kindVerdict Outside t ≡ accepted → t ≡ Pcs
 only-pcs Pcs e = refl
 only-pcs Wds e = cc
 only-pcs Pds e = cc

@@ -1,0 +1,3 @@
+pub mod ReadBack
+pub mod Alone
+pub mod SameObjects
