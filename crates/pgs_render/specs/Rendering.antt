@@ -5,7 +5,8 @@ use mathlib.Core.List.{List, [], _++_}
 use mathlib.Core.Path.{_≡_}
 use Prim.Native.Nat.{ℕ, _+_, _*_}
 use lib.ListN.{length}
-use Rattle.pgs_base.specs.Outcome.{Verdict, Outcome, andThen, needing, isAccepted, laid, outcomeOf, pick}
+use Rattle.pgs_base.specs.Outcome.{Verdict, Outcome, gives, refuses, andThen, needing, isAccepted, laid, outcomeOf, pick}
+use Rattle.pgs_base.specs.Refusals.{numberOf}
 use Rattle.pgs_color.specs.Bytes.{rgbOf}
 use Rattle.pgs_color.specs.Palette.{Conversion}
 use Rattle.pgs_plane.specs.Pictures.{planeShown}
@@ -19,6 +20,8 @@ use Rattle.pgs_set.specs.Reassembly.{joinedData}
 use Rattle.pgs_set.specs.Sets.{DisplaySet}
 use Rattle.pgs_render.specs.Images.{lookIn, bitmapsOf, areaOf, bitmapsVerdict, placementsVerdict}
 use Rattle.pgs_render.specs.Palettes.{entriesAmong, colorShown}
+use Rattle.pgs_render.specs.declared.render.RenderAnswer.{RenderAnswer}
+use Rattle.pgs_render.specs.declared.render.RenderAnswer.the-variants.{Shown, Refused}
 
 -- the numbers of a set's PCS, and its placements
 abbrev pub compositionOf : DisplaySet → Pcs
@@ -57,6 +60,11 @@ leftBy content cs = joinedData cs ++ pick (isAccepted content) (bitmapsOf cs) []
 -- width and height of the plane, and the PTS of the PCS
 abbrev pub shownBy : DisplaySet → ℕ × ℕ × ℕ
 shownBy d = (compositionOf d .width, compositionOf d .height, ptsOf (d .opening))
+
+-- the papers' values and number of each answer
+abbrev pub renderOutcome : RenderAnswer → Outcome (ℕ × ℕ × ℕ)
+renderOutcome (Shown width height pts) = gives (width, height, pts)
+renderOutcome (Refused r) = refuses (numberOf r)
 
 -- what painting set number k of a stream promises
 pub record Rendered (k : ℕ) (s scratch scratch′ plane plane′ : List ℕ) (answer : Outcome (ℕ × ℕ × ℕ)) : Type 0 where
