@@ -13,6 +13,7 @@ use Rattle.pgs_base.specs.Outcome.{Verdict, accepted, refused, Outcome, gives, 
 use Rattle.pgs_base.specs.declared.«segment_type».SegmentType.{SegmentType}
 use Rattle.pgs_base.specs.declared.«segment_type».SegmentType.the-variants.{Pds, Ods, Pcs, Wds, End, Other}
 use Rattle.pgs_base.proofs.Outcomes.{gave, gave-value, turned-down, first-accepts, second-holds, delivered, delivered-value, delivered-refusal}
+use Rattle.pgs_color.specs.Bytes.{rgbOf}
 use Rattle.pgs_segment.specs.Fields.{bodyVerdict}
 use Rattle.pgs_segment.specs.Header.{ptsOf, headerFields, headerOf}
 use Rattle.pgs_segment.specs.OneSegment.{segmentType, segmentVerdict, usedBy, bodyAt}
@@ -32,8 +33,8 @@ use Rattle.pgs_set.proofs.FragmentLaws.{lent-body}
 use Rattle.pgs_set.proofs.ObjectLaws.{stands-here, stands-open}
 use Rattle.pgs_set.proofs.SetLaws.{size-read, set-here, read-within}
 use Rattle.pgs_set.proofs.WalkLaws.{kind-accepted}
-use Rattle.pgs_render.specs.Rendering.{compositionOf, placementsIn, openVerdict, roomVerdict, shownBy, Rendered}
-use Rattle.pgs_render.specs.Steps.{Listed, Opened, Composed, Placed, RenderedSet}
+use Rattle.pgs_render.specs.Rendering.{compositionOf, placementsIn, roomVerdict, answerOf, Rendered}
+use Rattle.pgs_render.specs.Steps.{Listed, Opened, Composed, Placed}
 use Rattle.pgs_render.proofs.EntryLaws.{num-one}
 use Rattle.pgs_render.proofs.ObjectLaws.{few-objects}
 use Rattle.pgs_render.proofs.PaletteLaws.{no-head}
@@ -62,10 +63,9 @@ module _ {X : Type 0} {v : Verdict} {x : X} {rows before after : List (List ℕ)
   front-length q = q ∙ sym (ap length (front q))
 
 -- painting ends, and this is the answer
-pub answers : (k : ℕ) (s : List ℕ) {scratch scratch′ plane plane′ : List ℕ} {v : Verdict} {r : Outcome (ℕ × ℕ × ℕ)}
-    → RenderedSet k s scratch scratch′ plane plane′ v → r ≡ outcomeOf v (shownBy (setNumber k s)) → Rendered k s scratch scratch′ plane plane′ r
-answers k s w e =
-    record { answered = e ∙ ap (λ (v : Verdict). outcomeOf v (shownBy (setNumber k s))) (w .answered); stored = w .stored; painted = w .painted }
+pub answers : {verdict : Verdict} {d : DisplaySet} {cs : List Chain} {scratch scratch′ plane plane′ : List ℕ} {a r : Outcome (ℕ × ℕ × ℕ)}
+    → Rendered rgbOf verdict d cs scratch scratch′ plane plane′ a → r ≡ a → Rendered rgbOf verdict d cs scratch scratch′ plane plane′ r
+answers w e = record { answered = e ∙ w .answered; stored = w .stored; shown = w .shown }
 
 -- the objects
 module _ (k : ℕ) (s : List ℕ) where
@@ -100,9 +100,9 @@ module _ (k : ℕ) (s : List ℕ) where
             objects = front d lists-count;
           }
 
-  pub objects-refused : {n : ℕ} {scratch plane : List ℕ} → objectsVerdict k s ≡ refused n → Rendered k s scratch scratch plane plane (refuses n)
+  pub objects-refused : {n : ℕ} {scratch plane : List ℕ} → objectsVerdict k s ≡ refused n → Rendered rgbOf (objectsVerdict k s) (setNumber k s) (objectsOf k s) scratch scratch plane plane (refuses n)
   objects-refused {n} {scratch} {plane} e =
-      answers k s
+      answers
       (renders-none k s (ap (λ (v : Verdict). andThen v (roomVerdict (setNumber k s) (objectsOf k s) (length scratch) (length plane))) e)) refl
 
 -- the place of the PCS
@@ -199,5 +199,5 @@ module _ (b : List ℕ) where
           }
 
       pub parsed-answer : (k : ℕ) (s : List ℕ) {pts : ℕ} → Composed k s b pts → (v : Verdict) {r : Outcome (ℕ × ℕ × ℕ)}
-          → r ≡ outcomeOf v (p .width, p .height, pts) → r ≡ outcomeOf v (shownBy (setNumber k s))
+          → r ≡ outcomeOf v (p .width, p .height, pts) → r ≡ outcomeOf v (answerOf (setNumber k s))
       parsed-answer k s c v e = e ∙ (λ j. outcomeOf v (parsed-placed k s c .numbers j .width, parsed-placed k s c .numbers j .height, c .time j))

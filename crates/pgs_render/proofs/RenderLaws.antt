@@ -10,13 +10,13 @@ use lib.Dec.{leb}
 use lib.ListN.{length, take, drop, length-append}
 use lib.Seq.{take-at, drop-at, drop-drop}
 use Rattle.pgs_base.specs.Bytes.{Bytes}
-use Rattle.pgs_base.specs.Outcome.{Verdict, accepted, refused, Outcome, andThen, unless, needing, laid, delivery, Delivered, pick}
+use Rattle.pgs_base.specs.Outcome.{Verdict, accepted, refused, Outcome, outcomeOf, andThen, unless, needing, laid, delivery, Delivered, pick}
 use Rattle.pgs_base.proofs.Outcomes.{first-accepts, second-holds}
 use Rattle.pgs_bitmap.specs.Bitmap.{readingOf, bitmapOf}
 use Rattle.pgs_bitmap.proofs.BitmapArea.{bitmap-area}
 use Rattle.pgs_color.specs.Bytes.{rgbOf}
 use Rattle.pgs_color.specs.Table as table
-use Rattle.pgs_color.specs.Palette.{Entry}
+use Rattle.pgs_color.specs.Palette.{Conversion, Entry}
 use Rattle.pgs_plane.specs.Calls.{Clears, planeFits}
 use Rattle.pgs_plane.specs.Pictures.{Picture, planeOf, colorOver, transparent, indexOf, coveringAt, planeShown, cleared, paintedAll}
 use Rattle.pgs_plane.specs.Placing.{Image, tableColor}
@@ -29,14 +29,14 @@ use Rattle.pgs_segment.specs.declared.pcs.CompositionObject.{CompositionObject}
 use Rattle.pgs_segment.specs.declared.pcs.Pcs.{Pcs}
 use Rattle.pgs_set.specs.Objects.{Chain, dataOf, widthOf, heightOf, objectsOf, objectsVerdict, setNumber}
 use Rattle.pgs_set.specs.Reassembly.{joinedData, objectRows, shownBy}
-use Rattle.pgs_set.specs.Sets.{throughEnd}
+use Rattle.pgs_set.specs.Sets.{DisplaySet, throughEnd}
 use Rattle.pgs_set.specs.Walks.{piecesAt}
 use Rattle.pgs_set.proofs.ViewLaws.{shown-data}
 use Rattle.pgs_render.specs.Images.{lookIn, bitmapsOf, areaOf, bitmapsVerdict, placementsVerdict}
 use Rattle.pgs_render.specs.Palettes.{entriesAmong, colorShown}
-use Rattle.pgs_render.specs.Rendering.{compositionOf, placementsIn, pictureOf, roomVerdict, openVerdict, contentVerdict, renderVerdict, leftBy}
+use Rattle.pgs_render.specs.Rendering.{compositionOf, placementsIn, colorsIn, pictureOf, roomVerdict, earlyVerdict, contentVerdict, renderVerdict, leftBy, answerOf, Rendered}
 use Rattle.pgs_render.specs.Rows.{Narrow, rowsJoined, rowsNeed, rowsArea, rowsReading, rowsBitmaps, allPresent, lookAt, placementIn, AllStorable}
-use Rattle.pgs_render.specs.Steps.{Listed, Opened, Placed, JoinedAndRead, Ready, Showing, RenderedSet}
+use Rattle.pgs_render.specs.Steps.{Listed, Opened, Placed, JoinedAndRead, Ready, Showing}
 use Rattle.pgs_render.proofs.ColorLaws.{table-shown}
 use Rattle.pgs_render.proofs.EntryLaws.{few-ids}
 use Rattle.pgs_render.proofs.NarrowLaws.{objects-narrow}
@@ -67,6 +67,16 @@ shown-length color look ps w h four =
     go none = refl
     go (some i) = four i
 
+-- "plane four times its area": what an accepted call writes to the plane
+pub picture-length : (convert : Conversion) (d : DisplaySet) (cs : List Chain)
+    → length (pictureOf (colorsIn convert d) (lookIn cs) d) ≡ 4 * compositionOf d .width * compositionOf d .height
+picture-length convert d cs =
+    shown-length (colorsIn convert d) (lookIn cs) (placementsIn d) (compositionOf d .width) (compositionOf d .height) (λ i. refl)
+
+-- "scratch J plus every object's width times height": what it writes to the scratch
+pub left-length : (cs : List Chain) → bitmapsVerdict cs ≡ accepted → length (leftBy accepted cs) ≡ length (joinedData cs) + areaOf cs
+left-length cs e = length-append (joinedData cs) (bitmapsOf cs) ∙ ap (λ (n : ℕ). length (joinedData cs) + n) (bitmaps-area cs e)
+
 module _ (k : ℕ) (s : List ℕ) where
   -- where the data is joined, the records show it
   data-shown : (scratch : List ℕ) {scratch′ : List ℕ} → scratch′ ≡ laid accepted (joinedData (objectsOf k s)) scratch
@@ -94,7 +104,7 @@ module _ (k : ℕ) (s : List ℕ) where
       fits-as : leb (length (joinedData (objectsOf k s)) + areaOf (objectsOf k s)) (length scratch) ≡ fits
       fits-as = ap (λ (n : ℕ). leb n (length scratch)) (sym listed-need) ∙ sym q
 
-      pub scratch-short : fits ≡ false → openVerdict k s (length scratch) (length plane) ≡ refused 34
+      pub scratch-short : fits ≡ false → earlyVerdict (objectsVerdict k s) (setNumber k s) (objectsOf k s) (length scratch) (length plane) ≡ refused 34
       scratch-short f =
           λ j.
           andThen (l .taken j)
@@ -108,14 +118,14 @@ module _ (k : ℕ) (s : List ℕ) where
           plane-need : 4 * compositionOf (setNumber k s) .width * compositionOf (setNumber k s) .height ≡ 4 * pcs .width * pcs .height
           plane-need = ap (λ (x : Pcs). 4 * x .width * x .height) (sym (p .numbers))
 
-          pub plane-short : length plane < 4 * pcs .width * pcs .height → openVerdict k s (length scratch) (length plane) ≡ refused 34
+          pub plane-short : length plane < 4 * pcs .width * pcs .height → earlyVerdict (objectsVerdict k s) (setNumber k s) (objectsOf k s) (length scratch) (length plane) ≡ refused 34
           plane-short h =
               λ j.
               andThen (l .taken j)
               (andThen (unless 34 ((fits-as ∙ f) j))
               (unless 34 ((ap (λ (n : ℕ). leb n (length plane)) plane-need ∙ lt-leb (4 * pcs .width * pcs .height) (length plane) h) j)))
 
-          pub all-room : 4 * pcs .width * pcs .height ≤ length plane → openVerdict k s (length scratch) (length plane) ≡ accepted
+          pub all-room : 4 * pcs .width * pcs .height ≤ length plane → earlyVerdict (objectsVerdict k s) (setNumber k s) (objectsOf k s) (length scratch) (length plane) ≡ accepted
           all-room h =
               λ j.
               andThen (l .taken j)
@@ -177,9 +187,8 @@ module _ (k : ℕ) (s : List ℕ) where
       pub ready-room : joined + rowsArea rows ≤ length scratch
       ready-room = omega (arith, listed-area, r .room)
 
-      left-length : joined + rowsArea rows ≡ length (joinedData (objectsOf k s) ++ bitmapsOf (objectsOf k s))
-      left-length =
-          omega (arith, listed-area, r .size, length-append (joinedData (objectsOf k s)) (bitmapsOf (objectsOf k s)), bitmaps-area (objectsOf k s) accepts)
+      all-left : joined + rowsArea rows ≡ length (joinedData (objectsOf k s) ++ bitmapsOf (objectsOf k s))
+      all-left = omega (arith, listed-area, r .size, left-length (objectsOf k s) accepts)
 
       module _ {scratch′ : List ℕ} (e : scratch′ ≡ take joined scratch ++ (rowsBitmaps s scratch rows ++ drop (joined + rowsArea rows) scratch)) where
         in-order : scratch′ ≡ joinedData (objectsOf k s) ++ (bitmapsOf (objectsOf k s) ++ drop (joined + rowsArea rows) scratch)
@@ -193,7 +202,7 @@ module _ (k : ℕ) (s : List ℕ) where
         ready-stored =
             in-order
             ∙ sym (append-assoc (joinedData (objectsOf k s)) (bitmapsOf (objectsOf k s)) (drop (joined + rowsArea rows) scratch))
-            ∙ ap (λ (n : ℕ). (joinedData (objectsOf k s) ++ bitmapsOf (objectsOf k s)) ++ drop n scratch) left-length
+            ∙ ap (λ (n : ℕ). (joinedData (objectsOf k s) ++ bitmapsOf (objectsOf k s)) ++ drop n scratch) all-left
 
         looks : (id : ℕ) → lookAt scratch′ joined rows id ≡ lookIn (objectsOf k s) id
         looks id =
@@ -217,7 +226,7 @@ module _ (k : ℕ) (s : List ℕ) where
 
           pub ready-painted : {answer : Painted} {cleared′ plane′ : List ℕ} → Clears (pcs .width) (pcs .height) plane answer cleared′
               → plane′ ≡ paintedAll (tableColor t′) (lookAt scratch′ joined rows) (map placementIn placements) (pcs .width) (pcs .height) cleared′
-              → plane′ ≡ laid accepted (pictureOf rgbOf (setNumber k s) (objectsOf k s)) plane
+              → plane′ ≡ laid accepted (pictureOf (colorsIn rgbOf (setNumber k s)) (lookIn (objectsOf k s)) (setNumber k s)) plane
           ready-painted c q =
               q
               ∙ (λ j.
@@ -228,44 +237,43 @@ module _ (k : ℕ) (s : List ℕ) where
               ∙ (λ j.
               planeShown (λ i. colors i j) (λ id. looks id j) (placementsIn (setNumber k s)) (p .numbers j .width) (p .numbers j .height)
               ++ drop (4 * p .numbers j .width * p .numbers j .height) plane)
-              ∙ ap (λ (n : ℕ). pictureOf rgbOf (setNumber k s) (objectsOf k s) ++ drop n plane)
-              (sym
-              (shown-length (colorShown rgbOf (entriesAmong (compositionOf (setNumber k s) .«palette_id») (setNumber k s .others))) (lookIn (objectsOf k s)) (placementsIn (setNumber k s)) (compositionOf (setNumber k s) .width) (compositionOf (setNumber k s) .height) (λ i. refl)))
+              ∙ ap (λ (n : ℕ). pictureOf (colorsIn rgbOf (setNumber k s)) (lookIn (objectsOf k s)) (setNumber k s) ++ drop n plane)
+              (sym (picture-length rgbOf (setNumber k s) (objectsOf k s)))
 
   -- how painting ends
   module _ {scratch plane : List ℕ} where
-    pub renders-none : {n : ℕ} → openVerdict k s (length scratch) (length plane) ≡ refused n → RenderedSet k s scratch scratch plane plane (refused n)
+    pub renders-none : {n : ℕ} → earlyVerdict (objectsVerdict k s) (setNumber k s) (objectsOf k s) (length scratch) (length plane) ≡ refused n → Rendered rgbOf (objectsVerdict k s) (setNumber k s) (objectsOf k s) scratch scratch plane plane (outcomeOf (refused n) (answerOf (setNumber k s)))
     renders-none e =
         record {
-          answered = sym (ap (λ (v : Verdict). andThen v (contentVerdict (setNumber k s) (objectsOf k s))) e);
+          answered = sym (ap (λ (v : Verdict). outcomeOf (andThen v (contentVerdict (setNumber k s) (objectsOf k s))) (answerOf (setNumber k s))) e);
           stored = sym (ap (λ (v : Verdict). laid v (leftBy (contentVerdict (setNumber k s) (objectsOf k s)) (objectsOf k s)) scratch) e);
-          painted = sym (ap (λ (v : Verdict). laid (andThen v (contentVerdict (setNumber k s) (objectsOf k s))) (pictureOf rgbOf (setNumber k s) (objectsOf k s)) plane) e);
+          shown = sym (ap (λ (v : Verdict). laid (andThen v (contentVerdict (setNumber k s) (objectsOf k s))) (pictureOf (colorsIn rgbOf (setNumber k s)) (lookIn (objectsOf k s)) (setNumber k s)) plane) e);
         }
 
-    module _ (open-to : openVerdict k s (length scratch) (length plane) ≡ accepted) where
+    module _ (open-to : earlyVerdict (objectsVerdict k s) (setNumber k s) (objectsOf k s) (length scratch) (length plane) ≡ accepted) where
       pub renders-joined : {n : ℕ} {scratch′ : List ℕ} → contentVerdict (setNumber k s) (objectsOf k s) ≡ refused n
-          → scratch′ ≡ laid accepted (joinedData (objectsOf k s)) scratch → RenderedSet k s scratch scratch′ plane plane (refused n)
+          → scratch′ ≡ laid accepted (joinedData (objectsOf k s)) scratch → Rendered rgbOf (objectsVerdict k s) (setNumber k s) (objectsOf k s) scratch scratch′ plane plane (outcomeOf (refused n) (answerOf (setNumber k s)))
       renders-joined {n} e q =
           record {
-            answered = λ j. andThen (sym open-to j) (sym e j);
+            answered = λ j. outcomeOf (andThen (sym open-to j) (sym e j)) (answerOf (setNumber k s));
             stored =
                 q
                 ∙ ap (λ (x : List ℕ). laid accepted x scratch) (sym (append-nil (joinedData (objectsOf k s))))
                 ∙ (λ j. laid (sym open-to j) (leftBy (sym e j) (objectsOf k s)) scratch);
-            painted = λ j. laid (andThen (sym open-to j) (sym e j)) (pictureOf rgbOf (setNumber k s) (objectsOf k s)) plane;
+            shown = λ j. laid (andThen (sym open-to j) (sym e j)) (pictureOf (colorsIn rgbOf (setNumber k s)) (lookIn (objectsOf k s)) (setNumber k s)) plane;
           }
 
       pub renders-all : {scratch₁ scratch₂ plane₂ : List ℕ} → contentVerdict (setNumber k s) (objectsOf k s) ≡ accepted
           → scratch₁ ≡ laid accepted (joinedData (objectsOf k s)) scratch → Showing k s scratch₁ scratch₂ plane plane₂
-          → RenderedSet k s scratch scratch₂ plane plane₂ accepted
+          → Rendered rgbOf (objectsVerdict k s) (setNumber k s) (objectsOf k s) scratch scratch₂ plane plane₂ (outcomeOf accepted (answerOf (setNumber k s)))
       renders-all {scratch₁} e q w =
           record {
-            answered = λ j. andThen (sym open-to j) (sym e j);
+            answered = λ j. outcomeOf (andThen (sym open-to j) (sym e j)) (answerOf (setNumber k s));
             stored =
                 w .stored
                 ∙ ap (λ (x : List ℕ). (joinedData (objectsOf k s) ++ bitmapsOf (objectsOf k s)) ++ x) behind
                 ∙ (λ j. laid (sym open-to j) (leftBy (sym e j) (objectsOf k s)) scratch);
-            painted = w .painted ∙ (λ j. laid (andThen (sym open-to j) (sym e j)) (pictureOf rgbOf (setNumber k s) (objectsOf k s)) plane);
+            shown = w .shown ∙ (λ j. laid (andThen (sym open-to j) (sym e j)) (pictureOf (colorsIn rgbOf (setNumber k s)) (lookIn (objectsOf k s)) (setNumber k s)) plane);
           }
         where
           J : ℕ

@@ -191,14 +191,14 @@ has-of at id [] = refl
 has-of at id (c ∷ cs) = ap (pick (eqb (objectId c) id) true) (has-of (at + length (copiedData c)) id cs)
 
 pub present-of : (at : ℕ) (cs : List Chain) (ps : List CompositionObject)
-    → unless 33 (allPresent (rowsFrom at cs) (map placementRow ps)) ≡ placementsVerdict cs ps
+    → unless 33 (allPresent (rowsFrom at cs) (map placementRow ps)) ≡ placementsVerdict (hasObject cs) ps
 present-of at cs [] = refl
 present-of at cs (p ∷ ps) = go (hasRow (rowsFrom at cs) (p .«object_id»)) (has-of at (p .«object_id») cs) (present-of at cs ps)
   where
-    go : (b : Bool) → b ≡ hasObject cs (p .«object_id») → unless 33 (allPresent (rowsFrom at cs) (map placementRow ps)) ≡ placementsVerdict cs ps
-        → unless 33 (pick b (allPresent (rowsFrom at cs) (map placementRow ps)) false) ≡ andThen (unless 33 (hasObject cs (p .«object_id»))) (placementsVerdict cs ps)
-    go true e ih = ih ∙ ap (λ (b : Bool). andThen (unless 33 b) (placementsVerdict cs ps)) e
-    go false e ih = ap (λ (b : Bool). andThen (unless 33 b) (placementsVerdict cs ps)) e
+    go : (b : Bool) → b ≡ hasObject cs (p .«object_id») → unless 33 (allPresent (rowsFrom at cs) (map placementRow ps)) ≡ placementsVerdict (hasObject cs) ps
+        → unless 33 (pick b (allPresent (rowsFrom at cs) (map placementRow ps)) false) ≡ andThen (unless 33 (hasObject cs (p .«object_id»))) (placementsVerdict (hasObject cs) ps)
+    go true e ih = ih ∙ ap (λ (b : Bool). andThen (unless 33 b) (placementsVerdict (hasObject cs) ps)) e
+    go false e ih = ap (λ (b : Bool). andThen (unless 33 b) (placementsVerdict (hasObject cs) ps)) e
 
 -- 24 to 32, then 33, as the code tests them
 module _ {read : Verdict} where

@@ -13,8 +13,8 @@ use Rattle.pgs_set.specs.Objects.{objectsOf, objectsVerdict, setNumber}
 use Rattle.pgs_set.specs.Reassembly.{joinedData, objectRows}
 use Rattle.pgs_set.specs.Sets.{throughEnd}
 use Rattle.pgs_set.specs.Walks.{InSet, piecesAt}
-use Rattle.pgs_render.specs.Images.{areaOf}
-use Rattle.pgs_render.specs.Rendering.{compositionOf, placementsIn, pictureOf, openVerdict, contentVerdict, renderVerdict, leftBy}
+use Rattle.pgs_render.specs.Images.{lookIn, areaOf}
+use Rattle.pgs_render.specs.Rendering.{compositionOf, placementsIn, colorsIn, pictureOf, contentVerdict, leftBy}
 
 -- a set that 1 to 23 and 36 do not refuse, with the records of its objects
 pub record Listed (k : ℕ) (s : List ℕ) (rows : List (List ℕ)) : Type 0 where
@@ -53,12 +53,4 @@ pub record Ready (k : ℕ) (s : List ℕ) (pcs : Pcs) (joined : ℕ) (scratch pl
 -- the scratch and the plane after that
 pub record Showing (k : ℕ) (s scratch scratch′ plane plane′ : List ℕ) : Type 0 where
   pub stored : scratch′ ≡ laid accepted (leftBy accepted (objectsOf k s)) scratch
-  pub painted : plane′ ≡ laid accepted (pictureOf rgbOf (setNumber k s) (objectsOf k s)) plane
-
--- painting such a set, with this verdict
-pub record RenderedSet (k : ℕ) (s scratch scratch′ plane plane′ : List ℕ) (verdict : Verdict) : Type 0 where
-  pub answered : verdict ≡ renderVerdict k s (length scratch) (length plane)
-  pub stored : scratch′
-      ≡ laid (openVerdict k s (length scratch) (length plane)) (leftBy (contentVerdict (setNumber k s) (objectsOf k s)) (objectsOf k s)) scratch
-  pub painted : plane′
-      ≡ laid (renderVerdict k s (length scratch) (length plane)) (pictureOf rgbOf (setNumber k s) (objectsOf k s)) plane
+  pub shown : plane′ ≡ laid accepted (pictureOf (colorsIn rgbOf (setNumber k s)) (lookIn (objectsOf k s)) (setNumber k s)) plane

@@ -23,11 +23,12 @@ ghost use Prim.Native.Nat.{_≤_};
 ghost use lib.ListN.{length};
 ghost use Rattle.pgs_base.specs.Outcome.{outcomeOf};
 ghost use Rattle.pgs_bitmap.specs.Decoding.{outcome};
+ghost use Rattle.pgs_color.specs.Bytes.{rgbOf};
 ghost use Rattle.pgs_segment.specs.Header.{ptsOf};
-ghost use Rattle.pgs_set.specs.Objects.{objectsOf, setNumber};
+ghost use Rattle.pgs_set.specs.Objects.{objectsOf, objectsVerdict, setNumber};
 ghost use Rattle.pgs_set.specs.Reassembly.{joinedData};
 ghost use Rattle.pgs_set.specs.Walks.{SetStands};
-ghost use Rattle.pgs_render.specs.Rendering.{Rendered, renderOutcome};
+ghost use Rattle.pgs_render.specs.Rendering.{Rendered, answerOf, renderOutcome};
 ghost use Rattle.pgs_render.specs.Steps.{
   Listed,
   Opened,
@@ -36,7 +37,6 @@ ghost use Rattle.pgs_render.specs.Steps.{
   JoinedAndRead,
   Ready,
   Showing,
-  RenderedSet,
 };
 
 // The most placements that a count of one byte names.
@@ -114,7 +114,7 @@ fn render_set(
     requires { ⌜ Listed set (now s) (now rows) ⌝ }
     requires { ⌜ Opened set (now s) from ⌝ }
     requires { ⌜ Placed set (now s) pcs (now placements) ⌝ }
-    ensures { λ r. ⌜ RenderedSet set (now (s .entry)) (now (scratch .entry)) (now (scratch .exit)) (now (plane .entry)) (now (plane .exit)) (outcome r) ⌝ }
+    ensures { λ r. ⌜ Rendered rgbOf (objectsVerdict set (now (s .entry))) (setNumber set (now (s .entry))) (objectsOf set (now (s .entry))) (now (scratch .entry)) (now (scratch .exit)) (now (plane .entry)) (now (plane .exit)) (outcomeOf (outcome r) (answerOf (setNumber set (now (s .entry))))) ⌝ }
 {
     if !objects_fit(rows, scratch.len()) {
         return Decoded::Refused(Refusal::BufferTooSmall);
@@ -156,7 +156,7 @@ fn render_body(
     requires { ⌜ Listed set (now s) (now rows) ⌝ }
     requires { ⌜ Opened set (now s) from ⌝ }
     requires { ⌜ Composed set (now s) (now body) pts ⌝ }
-    ensures { λ r. ⌜ Rendered set (now (s .entry)) (now (scratch .entry)) (now (scratch .exit)) (now (plane .entry)) (now (plane .exit)) (renderOutcome r) ⌝ }
+    ensures { λ r. ⌜ Rendered rgbOf (objectsVerdict set (now (s .entry))) (setNumber set (now (s .entry))) (objectsOf set (now (s .entry))) (now (scratch .entry)) (now (scratch .exit)) (now (plane .entry)) (now (plane .exit)) (renderOutcome r) ⌝ }
 {
     let mut list = [[0u16; 10]; PLACEMENT_LIMIT];
     match Pcs::parse(body, &mut list) {
@@ -182,7 +182,7 @@ fn render_found(
     requires { ⌜ Listed set (now s) (now rows) ⌝ }
     requires { ⌜ SetStands (now s) set place ⌝ }
     requires { ⌜ pts ≡ ptsOf (setNumber set (now s) .opening) ⌝ }
-    ensures { λ r. ⌜ Rendered set (now (s .entry)) (now (scratch .entry)) (now (scratch .exit)) (now (plane .entry)) (now (plane .exit)) (renderOutcome r) ⌝ }
+    ensures { λ r. ⌜ Rendered rgbOf (objectsVerdict set (now (s .entry))) (setNumber set (now (s .entry))) (objectsOf set (now (s .entry))) (now (scratch .entry)) (now (scratch .exit)) (now (plane .entry)) (now (plane .exit)) (renderOutcome r) ⌝ }
 {
     match SegmentHeader::parse(&s[place..]) {
         // cannot be: the stream was accepted
@@ -204,7 +204,7 @@ fn render_listed(
     plane: &mut [u8],
 ) -> RenderAnswer
     requires { ⌜ Listed set (now s) (now rows) ⌝ }
-    ensures { λ r. ⌜ Rendered set (now (s .entry)) (now (scratch .entry)) (now (scratch .exit)) (now (plane .entry)) (now (plane .exit)) (renderOutcome r) ⌝ }
+    ensures { λ r. ⌜ Rendered rgbOf (objectsVerdict set (now (s .entry))) (setNumber set (now (s .entry))) (objectsOf set (now (s .entry))) (now (scratch .entry)) (now (scratch .exit)) (now (plane .entry)) (now (plane .exit)) (renderOutcome r) ⌝ }
 {
     match find_set(s, set) {
         // cannot be: the set has objects
@@ -215,7 +215,7 @@ fn render_listed(
 
 // Paints set number `set` of a stream: the joined data and the bitmaps fill the scratch, the pixels the plane, each from the front.
 pub fn render(s: &[u8], set: usize, scratch: &mut [u8], plane: &mut [u8]) -> RenderAnswer
-    ensures { λ r. ⌜ Rendered set (now (s .entry)) (now (scratch .entry)) (now (scratch .exit)) (now (plane .entry)) (now (plane .exit)) (renderOutcome r) ⌝ }
+    ensures { λ r. ⌜ Rendered rgbOf (objectsVerdict set (now (s .entry))) (setNumber set (now (s .entry))) (objectsOf set (now (s .entry))) (now (scratch .entry)) (now (scratch .exit)) (now (plane .entry)) (now (plane .exit)) (renderOutcome r) ⌝ }
 {
     let mut objects = [[0u64; 7]; OBJECT_LIMIT];
     match list_objects(s, set, &mut objects) {

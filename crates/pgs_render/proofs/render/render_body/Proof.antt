@@ -57,7 +57,7 @@ returns-2 : tie.Need-returns-2
 returns-2 c =
     let b = now (c .before .before .before .before .before .before .before .before .before .before .before .before .before .before .before .before .before .before .before .args .body) in
     let d = rw (ap pcsOutcome (c .before .before .before .before .before .before .before .before .before .before .pcs .given .1)) at (c .before .before .before .before .before .before .before .before .before .before .before .before .before .parse .ensures) in
-    answers (c .before .before .before .before .before .before .before .before .before .before .before .before .before .before .before .before .before .before .before .args .set) (now (c .before .before .before .before .before .before .before .before .before .before .before .before .before .before .before .before .before .before .before .args .s)) (c .before .before .before .before .before .render-set .ensures) (parsed-answer b d (c .before .before .before .before .before .before .before .before .before .before .before .before .before .before .before .before .before .before .before .args .set) (now (c .before .before .before .before .before .before .before .before .before .before .before .before .before .before .before .before .before .before .before .args .s)) (c .before .before .before .before .before .before .before .before .before .before .before .before .before .before .before .before .before .before .before .pre .1 .1) (outcome (c .before .before .before .before .before .render-set .result)) (c .answer-of .ensures))
+    answers (c .before .before .before .before .before .render-set .ensures) (parsed-answer b d (c .before .before .before .before .before .before .before .before .before .before .before .before .before .before .before .before .before .before .before .args .set) (now (c .before .before .before .before .before .before .before .before .before .before .before .before .before .before .before .before .before .before .before .args .s)) (c .before .before .before .before .before .before .before .before .before .before .before .before .before .before .before .before .before .before .before .pre .1 .1) (outcome (c .before .before .before .before .before .render-set .result)) (c .answer-of .ensures))
 
 pub render-body-spec : {M : Type 1} → statement M
 render-body-spec =
