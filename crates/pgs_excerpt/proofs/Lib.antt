@@ -1,3 +1,4 @@
 pub mod ReadBack
 pub mod Alone
 pub mod SameObjects
+pub mod SamePainting

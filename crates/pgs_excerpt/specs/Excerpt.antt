@@ -4,7 +4,9 @@ use Prim.Native.Nat.{ℕ, _+_}
 use mathlib.Core.Path.{_≡_}
 use mathlib.Core.List.{List, [], _∷_, map}
 use lib.ListN.{length, take, drop}
-use Rattle.pgs_base.specs.Outcome.{accepted}
+use Rattle.pgs_base.specs.Outcome.{Outcome, accepted}
+use Rattle.pgs_color.specs.Palette.{Conversion}
+use Rattle.pgs_render.specs.Rendering.{Rendered}
 use Rattle.pgs_set.specs.Objects.{Fragment, Chain, setNumber, setVerdict, objectsOf, objectsVerdict}
 use Rattle.pgs_set.specs.Sets.{DisplaySet, bytesIn, setsOf, setsVerdict}
 
@@ -39,3 +41,10 @@ SameObjects =
     (k : ℕ) (s : List ℕ) → setVerdict k s ≡ accepted
     → (objectsVerdict 0 (excerpt k s) ≡ objectsVerdict k s)
     × (objectsOf k s ≡ map (moved (setNumber k s .place)) (objectsOf 0 (excerpt k s)))
+
+-- painting the one set of an excerpt is painting the set in its stream: the same answer, scratch and plane, refusals included
+abbrev pub SamePainting : Type 0
+SamePainting =
+    (k : ℕ) (s : List ℕ) → setVerdict k s ≡ accepted → (convert : Conversion) (scratch scratch′ plane plane′ : List ℕ) (answer : Outcome (ℕ × ℕ × ℕ))
+    → Rendered convert (objectsVerdict 0 (excerpt k s)) (setNumber 0 (excerpt k s)) (objectsOf 0 (excerpt k s)) scratch scratch′ plane plane′ answer
+    → Rendered convert (objectsVerdict k s) (setNumber k s) (objectsOf k s) scratch scratch′ plane plane′ answer
