@@ -1,5 +1,5 @@
 # The commands of this repository; the README says more of each.
-.PHONY: cards test check diff bench fmt
+.PHONY: cards test check lib diff bench fmt
 
 # A line for each display set of the stream FILE. What changed since the last time is proved first.
 FILE = samples/one-set.sup
@@ -8,14 +8,25 @@ cards:
 	@rt check setcards >target/setcards.log 2>&1 || { cat target/setcards.log; exit 1; }
 	@target/bin/setcards <"$(FILE)"
 
-# The gate: everything proved from nothing, must-fail edits, programs, setcards on more inputs, the comparison with
-# the published Rust.
+# The gate: everything proved from nothing, must-fail edits, programs, setcards on more inputs, the bindings, the
+# comparison with the published Rust.
 test:
 	.ci/run
 
 # The proofs of what changed.
 check:
 	rt check
+
+# The static library and its header, in dist/, for programs in C and Rust.
+LIBRARY = target/staticlib/libpgs_c.a
+lib: $(LIBRARY)
+	@mkdir -p dist
+	@cp $(LIBRARY) include/pgs.h dist/
+
+# It is proved and built again where something of the crates is newer.
+$(LIBRARY): crates.txt $(shell find crates -path '*/src/*.rt' -o -path '*/specs/*.antt' -o -path '*/proofs/*.antt')
+	rt staticlib pgs_c
+	@touch $@
 
 # The comparison alone; words for it in ARGS, as ARGS="stream 50 47 00 .."
 diff:
@@ -29,3 +40,4 @@ bench:
 fmt:
 	rt fmt
 	cargo fmt --all --manifest-path tests/differential/Cargo.toml
+	cargo fmt --manifest-path bindings/rust/Cargo.toml
