@@ -1,5 +1,5 @@
 # The commands of this repository; the README says more of each.
-.PHONY: cards test check lib diff bench fmt
+.PHONY: cards test check lib diff recorded bench fmt
 
 # A line for each display set of the stream FILE. What changed since the last time is proved first.
 FILE = samples/one-set.sup
@@ -23,14 +23,19 @@ lib: $(LIBRARY)
 	@mkdir -p dist
 	@cp $(LIBRARY) include/pgs.h dist/
 
-# It is proved and built again where something of the crates is newer.
-$(LIBRARY): crates.txt $(shell find crates -path '*/src/*.rt' -o -path '*/specs/*.antt' -o -path '*/proofs/*.antt')
+# It is proved and built again where something of its crates is newer.
+CRATES = $(wildcard $(addprefix crates/,pgs_c $(shell sed -n 's/^pgs_c: *//p' crates.txt)))
+$(LIBRARY): crates.txt $(shell find $(CRATES) -path '*/src/*.rt' -o -path '*/specs/*.antt' -o -path '*/proofs/*.antt')
 	rt staticlib pgs_c
 	@touch $@
 
 # The comparison alone; words for it in ARGS, as ARGS="stream 50 47 00 .."
 diff:
 	tests/differential/run $(ARGS)
+
+# Answers of the published Rust, recorded for the program pgs_replay.
+recorded:
+	tests/differential/run record crates/pgs_replay
 
 # Times of the library and of the published Rust on the same inputs.
 bench:

@@ -1,7 +1,7 @@
 //! The library and the published Rust, timed on the same inputs in one run: the best time of each.
 
 use crate::bitmap::codes::{encoded, noisy, text_like};
-use crate::generate::{segment, END, ODS, PCS, PDS, WDS};
+use crate::captions::{captions, HOUR};
 use crate::library::{plain, ObjectRecord, SegmentRecord, SetRecord};
 use crate::prng::Prng;
 use published::pgs;
@@ -10,18 +10,11 @@ use std::time::{Duration, Instant};
 
 /// How often each side runs, in turns.
 const ROUNDS: usize = 15;
-/// The sets of an hour: one every three seconds.
-const HOUR: usize = 1_200;
-/// The letters that are drawn, each of LETTER pixels.
-const ALPHABET: usize = 80;
-const LETTER: (usize, usize) = (48, 110);
 const SCREEN: (usize, usize) = (1920, 1080);
 
 pub fn run(seed: u64) {
     let mut p = Prng::named(seed, "bench");
-    let letters: Vec<Vec<u8>> =
-        (0..ALPHABET).map(|_| drawn(text_like(&mut p, LETTER.0, LETTER.1), LETTER)).collect();
-    let hour = captions(&mut p, &letters, HOUR);
+    let hour = captions(&mut p, HOUR);
     println!("seed {seed}, best of {ROUNDS}; an hour of captions: {HOUR} sets, {} bytes", hour.len());
     println!("{:32} {:>10} {:>10} {:>6}", "", "library", "Rust", "ratio");
     reading(&hour);
@@ -32,54 +25,6 @@ pub fn run(seed: u64) {
     bitmap("bitmap 1920 by 1080, noisy", noisy(&mut p, SCREEN.0, SCREEN.1));
     for times in [4, 16] {
         objects(&format!("grouping and objects, {times} hours"), &hour.repeat(times));
-    }
-}
-
-fn drawn(pixels: Vec<u8>, (width, _): (usize, usize)) -> Vec<u8> {
-    encoded(&pixels, width)
-}
-
-/// Sets of letters placed one by one.
-fn captions(p: &mut Prng, letters: &[Vec<u8>], sets: usize) -> Vec<u8> {
-    let mut stream = Vec::new();
-    for set in 0..sets {
-        caption(p, letters, set as u32 * 270_000, &mut stream);
-    }
-    stream
-}
-
-/// One set: up to 60 placements of up to 30 letters; every eighth letter comes in two fragments.
-fn caption(p: &mut Prng, letters: &[Vec<u8>], pts: u32, stream: &mut Vec<u8>) {
-    let (objects, placements) = (p.between(10, 30) as u16, p.between(20, 60) as u16);
-    let mut pcs = vec![7, 0x80, 4, 0x38, 0x10, 0, 1, 0x80, 0, 0, placements as u8];
-    for i in 0..placements {
-        let [id, x] = [i % objects, 40 + 30 * i].map(u16::to_be_bytes);
-        pcs.extend([id[0], id[1], 0, 0, x[0], x[1], 3, 0]);
-    }
-    stream.extend(segment(PCS, pts, 0, &pcs));
-    stream.extend(segment(WDS, pts, 0, &[1, 0, 0, 0, 0, 0, 7, 0x80, 4, 0x38]));
-    let entries: Vec<u8> = (0..16).flat_map(|id| [id, 16 + 14 * id, 128, 128, 255]).collect();
-    stream.extend(segment(PDS, pts, 0, &[&[0, 0], &entries[..]].concat()));
-    for id in 0..objects {
-        letter(id, &letters[p.below(letters.len())], pts, stream);
-    }
-    stream.extend(segment(END, pts, 0, &[]));
-}
-
-fn letter(id: u16, data: &[u8], pts: u32, stream: &mut Vec<u8>) {
-    let [high, low] = id.to_be_bytes();
-    let declared = (data.len() as u32 + 4).to_be_bytes();
-    let first = |flag: u8, data: &[u8]| {
-        let head =
-            [high, low, 0, flag, declared[1], declared[2], declared[3], 0, LETTER.0 as u8, 0, LETTER.1 as u8];
-        segment(ODS, pts, 0, &[&head[..], data].concat())
-    };
-    if id % 8 == 7 {
-        let (front, rest) = data.split_at(data.len() / 2);
-        stream.extend(first(0x80, front));
-        stream.extend(segment(ODS, pts, 0, &[&[high, low, 0, 0x40, 0, 0, 0][..], rest].concat()));
-    } else {
-        stream.extend(first(0xC0, data));
     }
 }
 
@@ -153,7 +98,7 @@ fn writing(stream: &[u8]) {
 
 fn bitmap(name: &str, pixels: Vec<u8>) {
     let (width, height) = (SCREEN.0 as u16, SCREEN.1 as u16);
-    let data = drawn(pixels, SCREEN);
+    let data = encoded(&pixels, SCREEN.0);
     let mut out = vec![0; SCREEN.0 * SCREEN.1];
     let ours = || assert!(plain::decode_rle(black_box(&data), width, height, &mut out) == 0);
     row(name, ours, || drop(black_box(pgs::decode_rle(black_box(&data), width, height))));

@@ -2,7 +2,9 @@
 
 mod bench;
 mod bitmap;
+mod captions;
 mod color;
+mod commands;
 mod compare;
 mod examples;
 mod generate;
@@ -10,6 +12,8 @@ mod lent;
 mod library;
 mod numbers;
 mod prng;
+mod record;
+mod regressions;
 mod run;
 mod samples;
 mod segments;
@@ -19,20 +23,26 @@ mod shrink;
 mod vast;
 mod writer;
 
+use commands::check_of;
 use compare::Tally;
+use record::Recorder;
 use run::{unhex, Layer, Run};
 use std::fs;
+use std::path::Path;
 use std::process::ExitCode;
 use std::time::Instant;
 
 const USAGE: &str = "\
 differential                                    the examples, then the comparison
 differential examples                           the examples alone
-differential compare [--seed N] [--streams N] [--layer NAME]
-                                                the comparison alone; NAME is segments, writer, bitmap, color or sets
+differential compare [--seed N] [--streams N] [--scale N] [--layer NAME]
+                                                the comparison alone, with N random streams, or N times as many as
+                                                usual; NAME is segments, writer, bitmap, color or sets
 differential bench [--seed N]                   times of both sides
+differential record FOLDER                      answers of the Rust, into the files stdin and stdout of pgs_replay
 differential stream HEX                         one stream
 differential sets HEX                           one stream: its sets and their objects
+differential browse HEX                         one stream: its sets, and the objects of each from its bytes alone
 differential writes HEX                         one stream: its segments written again, one by one and as a list
 differential fields HEX                         fields to write: the writer (14, 15, 16, 17, 80, or 00 for unknown
                                                 kinds), PTS, DTS, the byte of an unknown kind, the cells of the
@@ -55,21 +65,9 @@ fn main() -> ExitCode {
         ["examples"] => run_examples(),
         ["compare", ref rest @ ..] => options(rest).and_then(|options| run_comparison(&options)),
         ["bench", ref rest @ ..] => options(rest).map(|options| bench::run(options.seed)),
-        ["stream", ref hex @ ..] => one(hex, |stream, tally| {
-            segments::show(stream);
-            segments::check_stream(stream, tally)
-        }),
-        ["body", kind @ ("14" | "15" | "16" | "17"), ref hex @ ..] => {
-            let kind = u8::from_str_radix(kind, 16).expect("two digits");
-            one(hex, |body, tally| segments::check_body(kind, body, tally))
-        }
-        ["writes", ref hex @ ..] => one(hex, writer::check),
-        ["fields", ref hex @ ..] => one(hex, writer::check_input),
-        ["sets", ref hex @ ..] => one(hex, sets::check),
-        ["bitmap", ref hex @ ..] => one(hex, bitmap::check),
-        ["color", ref hex @ ..] => one(hex, color::check_color),
-        ["palettes", ref hex @ ..] => one(hex, color::check_palettes),
-        _ => Err(USAGE.to_string()),
+        ["record", folder] => run_recording(Path::new(folder)),
+        ["body", kind, ref hex @ ..] => one(&format!("body {kind}"), hex),
+        [command, ref hex @ ..] => one(command, hex),
     };
     match outcome {
         Ok(()) => ExitCode::SUCCESS,
@@ -106,6 +104,10 @@ fn options(words: &[&str]) -> Result<Options, String> {
     for pair in words.chunks(2) {
         match pair {
             ["--seed", n] => options.seed = n.parse().map_err(|_| USAGE)?,
+            ["--scale", n] => {
+                let times: usize = n.parse().map_err(|_| USAGE)?;
+                options.streams = Options::default().streams.checked_mul(times).ok_or(USAGE)?;
+            }
             ["--streams", n] => options.streams = n.parse().map_err(|_| USAGE)?,
             ["--layer", name] if LAYERS.iter().any(|layer| layer.name == *name) => {
                 options.layer = Some(name.to_string());
@@ -117,7 +119,8 @@ fn options(words: &[&str]) -> Result<Options, String> {
 }
 
 /// Compares one input from the command line.
-fn one(hex: &[&str], check: impl Fn(&[u8], &mut Tally) -> Result<(), String>) -> Result<(), String> {
+fn one(command: &str, hex: &[&str]) -> Result<(), String> {
+    let check = check_of(command).ok_or(USAGE)?;
     let text = match hex {
         [name] if name.starts_with('@') => {
             fs::read_to_string(&name[1..]).map_err(|e| format!("{name}: {e}"))?
@@ -125,6 +128,9 @@ fn one(hex: &[&str], check: impl Fn(&[u8], &mut Tally) -> Result<(), String>) ->
         _ => hex.concat(),
     };
     let bytes = unhex(&text).ok_or(USAGE)?;
+    if command == "stream" {
+        segments::show(&bytes);
+    }
     let mut tally = Tally::default();
     check(&bytes, &mut tally)?;
     print!("{}", tally.answers());
@@ -132,9 +138,25 @@ fn one(hex: &[&str], check: impl Fn(&[u8], &mut Tally) -> Result<(), String>) ->
     Ok(())
 }
 
+/// The number of random streams that some are recorded of.
+const RECORDED_STREAMS: usize = 20_000;
+
+fn run_recording(folder: &Path) -> Result<(), String> {
+    let seed = Options::default().seed;
+    let mut recorder = Run::new(seed, RECORDED_STREAMS);
+    recorder.recorder = Some(Recorder::new(seed));
+    LAYERS.iter().for_each(|layer| recorder.record_layer(layer));
+    let recorder = recorder.recorder.expect("the recorder of this run");
+    let calls = recorder.write(folder).map_err(|e| format!("{}: {e}", folder.display()))?;
+    println!("{calls} answers are in {}", folder.display());
+    Ok(())
+}
+
 fn run_comparison(options: &Options) -> Result<(), String> {
     let began = Instant::now();
     let mut run = Run::new(options.seed, options.streams);
+    let regressions = regressions::run(&mut run.tally)?;
+    println!("regressions: {regressions}");
     let chosen = |layer: &&Layer| options.layer.as_ref().is_none_or(|name| name == layer.name);
     for layer in LAYERS.iter().filter(chosen) {
         run.compare_layer(layer);
