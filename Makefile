@@ -1,5 +1,5 @@
 # The commands of this repository; the README says more of each.
-.PHONY: cards test check lib diff recorded bench fmt
+.PHONY: cards test check lib diff differential recorded bench fmt
 
 # A line for each display set of the stream FILE. What changed since the last time is proved first.
 FILE = samples/one-set.sup
@@ -29,8 +29,8 @@ $(LIBRARY): crates.txt $(shell find $(CRATES) -path '*/src/*.rt' -o -path '*/spe
 	rt staticlib pgs_c
 	@touch $@
 
-# The comparison alone; words for it in ARGS, as ARGS="stream 50 47 00 .."
-diff:
+# The comparison alone; words for it in ARGS, as ARGS="compare --scale 4" or ARGS="stream 50 47 00 .."
+diff differential:
 	tests/differential/run $(ARGS)
 
 # Answers of the published Rust, recorded for the program pgs_replay.

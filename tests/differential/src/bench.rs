@@ -12,58 +12,96 @@ use std::time::{Duration, Instant};
 const ROUNDS: usize = 15;
 const SCREEN: (usize, usize) = (1920, 1080);
 
+/// The smallest input whose growth is measured has a LARGEST-th of an hour's sets, or of a screen's lines.
+const LARGEST: usize = 64;
+const STEPS: [usize; 4] = [1, 4, 16, LARGEST];
+
 pub fn run(seed: u64) {
     let mut p = Prng::named(seed, "bench");
     let hour = captions(&mut p, HOUR);
-    println!("seed {seed}, best of {ROUNDS}; an hour of captions: {HOUR} sets, {} bytes", hour.len());
+    let text = text_like(&mut p, SCREEN.0, SCREEN.1);
+    let noise = noisy(&mut p, SCREEN.0, SCREEN.1);
+    println!("seed {seed}, best of {ROUNDS}; an hour of captions: {HOUR} sets, {} bytes\n", hour.len());
     println!("{:32} {:>10} {:>10} {:>6}", "", "library", "Rust", "ratio");
-    reading(&hour);
-    grouping(&hour);
-    objects("grouping and objects", &hour);
-    writing(&hour);
-    bitmap("bitmap 1920 by 1080, text-like", text_like(&mut p, SCREEN.0, SCREEN.1));
-    bitmap("bitmap 1920 by 1080, noisy", noisy(&mut p, SCREEN.0, SCREEN.1));
-    for times in [4, 16] {
-        objects(&format!("grouping and objects, {times} hours"), &hour.repeat(times));
-    }
+    row("reading", reading(&hour));
+    row("grouping", grouping(&hour));
+    row("grouping and objects", objects(&hour));
+    row("reading and writing", writing(&hour));
+    row("bitmap 1920 by 1080, text-like", bitmap(&text));
+    row("bitmap 1920 by 1080, noisy", bitmap(&noise));
+
+    println!("\nmilliseconds of the library, as the input grows; what {LARGEST} times the input takes\n");
+    let heads = STEPS.map(|step| format!("{step:>8} x"));
+    println!("{:32} {} {:>10} {:>10}", "", heads.join(" "), "library", "Rust");
+    let minute = captions(&mut p, HOUR / LARGEST);
+    growth("reading", |times| reading(&minute.repeat(times)));
+    growth("grouping", |times| grouping(&minute.repeat(times)));
+    growth("grouping and objects", |times| objects(&minute.repeat(times)));
+    growth("reading and writing", |times| writing(&minute.repeat(times)));
+    let lines = |all: &[u8], times: usize| {
+        let middle = &all[all.len() / 2..][..SCREEN.0 * (SCREEN.1 / LARGEST)];
+        middle.repeat(times)
+    };
+    growth("bitmap, text-like", |times| bitmap(&lines(&text, times)));
+    growth("bitmap, noisy", |times| bitmap(&lines(&noise, times)));
 }
 
-/// Times both sides in turns, and prints the best of each.
-fn row(name: &str, mut ours: impl FnMut(), mut theirs: impl FnMut()) {
+/// The best time of each side.
+struct Times {
+    library: Duration,
+    rust: Duration,
+}
+
+/// Times both sides in turns.
+fn timed(mut ours: impl FnMut(), mut theirs: impl FnMut()) -> Times {
     let timed = |side: &mut dyn FnMut()| {
         let start = Instant::now();
         side();
         start.elapsed()
     };
-    let (mut library, mut rust) = (Duration::MAX, Duration::MAX);
+    let mut best = Times { library: Duration::MAX, rust: Duration::MAX };
     for _ in 0..ROUNDS {
-        library = library.min(timed(&mut ours));
-        rust = rust.min(timed(&mut theirs));
+        best.library = best.library.min(timed(&mut ours));
+        best.rust = best.rust.min(timed(&mut theirs));
     }
+    best
+}
+
+fn row(name: &str, Times { library, rust }: Times) {
     let ratio = library.as_secs_f64() / rust.as_secs_f64();
     println!("{name:32} {:>7.3} ms {:>7.3} ms {ratio:>6.2}", millis(library), millis(rust));
+}
+
+/// The times for 1, 4, 16 and 64 times the input.
+fn growth(name: &str, measure: impl Fn(usize) -> Times) {
+    let times = STEPS.map(measure);
+    let each = times.each_ref().map(|times| format!("{:>10.4}", millis(times.library)));
+    let [first, .., last] = &times;
+    let grown = |side: fn(&Times) -> Duration| side(last).as_secs_f64() / side(first).as_secs_f64();
+    let (library, rust) = (grown(|times| times.library), grown(|times| times.rust));
+    println!("{name:32} {} {library:>8.1} x {rust:>8.1} x", each.join(" "));
 }
 
 fn millis(time: Duration) -> f64 {
     time.as_secs_f64() * 1e3
 }
 
-fn reading(stream: &[u8]) {
+fn reading(stream: &[u8]) -> Times {
     let segments = pgs::parse_segments(stream).expect("good captions").len();
     let mut list: Vec<SegmentRecord> = vec![[0; 5]; segments];
     let ours = || assert!(plain::parse_segments(black_box(stream), &mut list, &mut [0]) == 0);
-    row("reading", ours, || drop(black_box(pgs::parse_segments(black_box(stream)))));
+    timed(ours, || drop(black_box(pgs::parse_segments(black_box(stream)))))
 }
 
-fn grouping(stream: &[u8]) {
-    let mut list: Vec<SetRecord> = vec![[0; 3]; stream.len() / 26];
+fn grouping(stream: &[u8]) -> Times {
+    let mut list: Vec<SetRecord> = vec![[0; 3]; stream.len() / 37];
     let ours = || assert!(plain::parse_display_sets(black_box(stream), &mut list, &mut [0]) == 0);
-    row("grouping", ours, || drop(black_box(pgs::parse_display_sets(black_box(stream)))));
+    timed(ours, || drop(black_box(pgs::parse_display_sets(black_box(stream)))))
 }
 
 /// The sets of a stream, then the objects of each; the library is handed the bytes of each set alone.
-fn objects(name: &str, stream: &[u8]) {
-    let mut sets: Vec<SetRecord> = vec![[0; 3]; stream.len() / 26];
+fn objects(stream: &[u8]) -> Times {
+    let mut sets: Vec<SetRecord> = vec![[0; 3]; stream.len() / 37];
     let mut scratch = vec![0; 1 << 20];
     let mut list: Vec<ObjectRecord> = vec![[0; 7]; 64];
     let ours = || {
@@ -79,11 +117,11 @@ fn objects(name: &str, stream: &[u8]) {
             drop(black_box(set.reassemble_objects().expect("good objects")));
         }
     };
-    row(name, ours, theirs);
+    timed(ours, theirs)
 }
 
 /// All segments read and written again, into one buffer.
-fn writing(stream: &[u8]) {
+fn writing(stream: &[u8]) -> Times {
     let mut out = vec![0; stream.len()];
     let ours = || assert!(plain::write_segments(black_box(stream), &mut out, &mut [0], &mut [0]) == 0);
     let theirs = || {
@@ -93,13 +131,14 @@ fn writing(stream: &[u8]) {
         }
         drop(black_box(written));
     };
-    row("reading and writing", ours, theirs);
+    timed(ours, theirs)
 }
 
-fn bitmap(name: &str, pixels: Vec<u8>) {
-    let (width, height) = (SCREEN.0 as u16, SCREEN.1 as u16);
-    let data = encoded(&pixels, SCREEN.0);
-    let mut out = vec![0; SCREEN.0 * SCREEN.1];
+/// The pixels of whole lines of the screen, coded and decoded.
+fn bitmap(pixels: &[u8]) -> Times {
+    let (width, height) = (SCREEN.0 as u16, (pixels.len() / SCREEN.0) as u16);
+    let data = encoded(pixels, SCREEN.0);
+    let mut out = vec![0; pixels.len()];
     let ours = || assert!(plain::decode_rle(black_box(&data), width, height, &mut out) == 0);
-    row(name, ours, || drop(black_box(pgs::decode_rle(black_box(&data), width, height))));
+    timed(ours, || drop(black_box(pgs::decode_rle(black_box(&data), width, height))))
 }

@@ -1,5 +1,6 @@
-//! Inputs on which the two sides once differed. Each mismatch adds one to the folder regressions/, as a file with one
-//! line: the command, then the bytes in hexadecimal. A comparison starts with them.
+//! Inputs on which the library, or a wrong copy of it, once differed from the Rust. Each mismatch adds the smallest
+//! input found to the folder regressions/, as a file with one line: the command, then the bytes in hexadecimal. A
+//! comparison starts with them.
 
 use crate::commands::check_of;
 use crate::compare::Tally;
