@@ -11,6 +11,8 @@ use std::time::{Duration, Instant};
 /// How often each side runs, in turns.
 const ROUNDS: usize = 15;
 const SCREEN: (usize, usize) = (1920, 1080);
+/// A line of the screen where a line of letters stands.
+const LETTERS: usize = 495;
 
 /// The smallest input whose growth is measured has a LARGEST-th of an hour's sets, or of a screen's lines.
 const LARGEST: usize = 64;
@@ -39,8 +41,8 @@ pub fn run(seed: u64) {
     growth("grouping and objects", |times| objects(&minute.repeat(times)));
     growth("reading and writing", |times| writing(&minute.repeat(times)));
     let lines = |all: &[u8], times: usize| {
-        let middle = &all[all.len() / 2..][..SCREEN.0 * (SCREEN.1 / LARGEST)];
-        middle.repeat(times)
+        let some = &all[SCREEN.0 * LETTERS..][..SCREEN.0 * (SCREEN.1 / LARGEST)];
+        some.repeat(times)
     };
     growth("bitmap, text-like", |times| bitmap(&lines(&text, times)));
     growth("bitmap, noisy", |times| bitmap(&lines(&noise, times)));

@@ -18,15 +18,32 @@ struct Sign {
     data: Vec<u8>,
 }
 
-fn drawn(p: &mut Prng, size: (u8, u8)) -> Sign {
-    let pixels = text_like(p, size.0 as usize, size.1 as usize);
-    Sign { size, data: encoded(&pixels, size.0 as usize) }
+fn letter(p: &mut Prng) -> Sign {
+    let pixels = text_like(p, LETTER.0 as usize, LETTER.1 as usize);
+    Sign { size: LETTER, data: encoded(&pixels, LETTER.0 as usize) }
+}
+
+/// A slope of a few colours.
+fn accent(p: &mut Prng) -> Sign {
+    let (width, height) = (ACCENT.0 as usize, ACCENT.1 as usize);
+    let (thick, slant) = (p.between(3, 8), p.below(2));
+    let color = |i: usize| {
+        let (x, y) = (i % width, i / width);
+        let edge = if slant == 0 { y } else { height - y };
+        if (edge..edge + thick).contains(&x) {
+            1 + (x - edge) as u8 % 3
+        } else {
+            0
+        }
+    };
+    let pixels: Vec<u8> = (0..width * height).map(color).collect();
+    Sign { size: ACCENT, data: encoded(&pixels, width) }
 }
 
 /// A stream of as many sets.
 pub fn captions(p: &mut Prng, sets: usize) -> Vec<u8> {
-    let mut font: Vec<Sign> = (0..LETTERS).map(|_| drawn(p, LETTER)).collect();
-    font.extend((0..ACCENTS).map(|_| drawn(p, ACCENT)));
+    let mut font: Vec<Sign> = (0..LETTERS).map(|_| letter(p)).collect();
+    font.extend((0..ACCENTS).map(|_| accent(p)));
     let mut stream = Vec::new();
     for set in 0..sets {
         caption(p, &font, set as u32 * 270_000, &mut stream);
