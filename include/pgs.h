@@ -6,12 +6,13 @@
  * pgs_ycbcr709_to_rgb, which refuses nothing, answers a colour. A refused call changes nothing: the records, the
  * lists, the buffers and the count are as they were before it. An accepted call writes the records or bytes that it
  * answers, from the front of the list or buffer, and leaves the rest as it was; a palette is stored at its indices.
+ * One exception: pgs_render refused by 24 to 33 has written the joined data of the set's objects to the scratch.
  *
  * A list is an array of records. A record is an array of numbers, its cells named by the constants below.
  * The length of a list counts records, not cells and not bytes; that of a buffer counts bytes. A list or buffer may
  * be longer than is needed, and one that is exactly long enough is accepted. One too short is PGS_BUFFER_TOO_SMALL,
- * which is given only where no other refusal is; pgs_write_segments alone takes any buffer, and says how many writes
- * fit. The input is only read. Nothing is allocated and nothing is kept after the call.
+ * which is given only where no other refusal is, save 24 to 33 of pgs_render; pgs_write_segments alone takes any
+ * buffer, and says how many writes fit. The input is only read. Nothing is allocated and nothing is kept after the call.
  *
  * What the caller owes, as for any C function: every pointer is valid, aligned for its type and not NULL, also
  * where its length is 0; lengths are true; what is lent for writing overlaps neither the input nor other lent
@@ -65,6 +66,7 @@ enum {
     PGS_TOO_MANY_LINES = 30,
     PGS_PARTIAL_LAST_LINE = 31,
     PGS_LINE_COUNT_MISMATCH = 32,
+    PGS_OBJECT_NOT_IN_SET = 33,
     PGS_BUFFER_TOO_SMALL = 34,
     PGS_NOT_ENCODABLE = 35,
     PGS_NO_SUCH_SET = 36
@@ -314,6 +316,35 @@ uint8_t pgs_reassemble_objects(const uint8_t *stream, size_t stream_length,
                                uint8_t *scratch, size_t scratch_length,
                                pgs_object *objects, size_t objects_length,
                                uint64_t *count);
+
+/* What pgs_render shows. */
+enum {
+    PGS_SHOWN_WIDTH,
+    PGS_SHOWN_HEIGHT,
+    PGS_SHOWN_PTS, /* of the set's PCS */
+    PGS_SHOWN_CELLS
+};
+typedef uint64_t pgs_shown[PGS_SHOWN_CELLS];
+
+/*
+ * Paints one set, counted from 0, onto a plane of its composition's width and height; shown gets these and the PTS.
+ * The plane gets R, G, B and alpha of each pixel, row by row, the top left pixel first: 4 times width times height
+ * bytes. Alpha is not multiplied into the colour. Each pixel shows the last placement that covers it, a transparent
+ * pixel too; a pixel that none covers is 0, 0, 0, 0, whatever it was before. A crop is a part of its object, whose top
+ * left pixel stands at the placement's place; what is beyond the object or the plane is not shown. Windows are not
+ * consulted. The colours are those of the set's own palettes with the id that its composition names, wherever they
+ * stand in the set; the objects are the set's own.
+ * The scratch gets the joined data of the objects as by pgs_reassemble_objects, then the bitmap of each object in the
+ * same order, also of those that no placement shows: the length of that data plus each object's width times height.
+ * The plane may be as large as 17,179,344,900 bytes: take the width and height from pgs_parse_pcs.
+ * Refusals: as pgs_reassemble_objects, but 34 for a scratch or a plane that is too short; then 24 to 32 of the first
+ * object whose bitmap is refused, as pgs_decode_rle; then 33, for a placement whose object is not in the set.
+ */
+uint8_t pgs_render(const uint8_t *stream, size_t stream_length,
+                   uint64_t set,
+                   uint8_t *scratch, size_t scratch_length,
+                   uint8_t *plane, size_t plane_length,
+                   pgs_shown *shown);
 
 /* The bytes of one card line: 34 digits and a line feed. */
 enum {

@@ -1,24 +1,5 @@
 // Reading: the stream and the bodies.
-use pgs_cells::ods::ods_cells;
-use pgs_cells::pcs::pcs_cells;
-use pgs_cells::pds::pds_cells;
-use pgs_segment::ods::Ods;
-use pgs_segment::ods::OdsAnswer;
-use pgs_segment::pcs::Pcs;
-use pgs_segment::pcs::PcsAnswer;
-use pgs_segment::pds::Pds;
-use pgs_segment::pds::PdsAnswer;
-use pgs_segment::stream::StreamAnswer;
-use pgs_segment::stream::parse_segments;
-use pgs_segment::wds::Wds;
-use pgs_segment::wds::WdsAnswer;
-ghost use Rattle.pgs_c.specs.Segments.{
-  SegmentsCall,
-  PcsCall,
-  WdsCall,
-  PdsCall,
-  OdsCall,
-};
+ghost use Rattle.pgs_c_segment.specs.Segments.{SegmentsCall, PcsCall, WdsCall, PdsCall, OdsCall};
 
 #[no_mangle]
 pub extern "C" fn pgs_parse_segments(
@@ -28,13 +9,7 @@ pub extern "C" fn pgs_parse_segments(
 ) -> u8
     ensures { λ r. ⌜ SegmentsCall (now (stream .entry)) (now (segments .entry)) (now (segments .exit)) (now (count .entry)) (now (count .exit)) r ⌝ }
 {
-    match parse_segments(stream, segments) {
-        StreamAnswer::Refused(why) => why.number(),
-        StreamAnswer::Segments(found) => {
-            *count = found as u64;
-            0
-        }
-    }
+    pgs_c_segment::segments::pgs_parse_segments(stream, segments, count)
 }
 
 #[no_mangle]
@@ -46,27 +21,14 @@ pub extern "C" fn pgs_parse_pcs(
 ) -> u8
     ensures { λ r. ⌜ PcsCall (now (body .entry)) (now (pcs .entry)) (now (pcs .exit)) (now (placements .entry)) (now (placements .exit)) (now (count .entry)) (now (count .exit)) r ⌝ }
 {
-    match Pcs::parse(body, placements) {
-        PcsAnswer::Refused(why) => why.number(),
-        PcsAnswer::Placements(numbers, placed) => {
-            *pcs = pcs_cells(numbers);
-            *count = placed as u64;
-            0
-        }
-    }
+    pgs_c_segment::segments::pgs_parse_pcs(body, pcs, placements, count)
 }
 
 #[no_mangle]
 pub extern "C" fn pgs_parse_wds(body: &[u8], windows: &mut [[u16; 5]], count: &mut u64) -> u8
     ensures { λ r. ⌜ WdsCall (now (body .entry)) (now (windows .entry)) (now (windows .exit)) (now (count .entry)) (now (count .exit)) r ⌝ }
 {
-    match Wds::parse(body, windows) {
-        WdsAnswer::Refused(why) => why.number(),
-        WdsAnswer::Windows(windows_read) => {
-            *count = windows_read as u64;
-            0
-        }
-    }
+    pgs_c_segment::segments::pgs_parse_wds(body, windows, count)
 }
 
 #[no_mangle]
@@ -78,25 +40,12 @@ pub extern "C" fn pgs_parse_pds(
 ) -> u8
     ensures { λ r. ⌜ PdsCall (now (body .entry)) (now (pds .entry)) (now (pds .exit)) (now (entries .entry)) (now (entries .exit)) (now (count .entry)) (now (count .exit)) r ⌝ }
 {
-    match Pds::parse(body, entries) {
-        PdsAnswer::Refused(why) => why.number(),
-        PdsAnswer::Entries(numbers, given) => {
-            *pds = pds_cells(numbers);
-            *count = given as u64;
-            0
-        }
-    }
+    pgs_c_segment::segments::pgs_parse_pds(body, pds, entries, count)
 }
 
 #[no_mangle]
 pub extern "C" fn pgs_parse_ods(body: &[u8], ods: &mut [u64; 9]) -> u8
     ensures { λ r. ⌜ OdsCall (now (body .entry)) (now (ods .entry)) (now (ods .exit)) r ⌝ }
 {
-    match Ods::parse(body) {
-        OdsAnswer::Refused(why) => why.number(),
-        OdsAnswer::Fragment(numbers, data) => {
-            *ods = ods_cells(numbers, data);
-            0
-        }
-    }
+    pgs_c_segment::segments::pgs_parse_ods(body, ods)
 }

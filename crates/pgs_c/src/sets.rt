@@ -1,9 +1,5 @@
 // Display sets and their objects.
-use pgs_set::object::ObjectsAnswer;
-use pgs_set::object::reassemble_objects;
-use pgs_set::set::SetsAnswer;
-use pgs_set::set::parse_display_sets;
-ghost use Rattle.pgs_c.specs.Sets.{SetsCall, ObjectsCall};
+ghost use Rattle.pgs_c_set.specs.Sets.{SetsCall, ObjectsCall};
 
 #[no_mangle]
 pub extern "C" fn pgs_parse_display_sets(
@@ -13,13 +9,7 @@ pub extern "C" fn pgs_parse_display_sets(
 ) -> u8
     ensures { λ r. ⌜ SetsCall (now (stream .entry)) (now (sets .entry)) (now (sets .exit)) (now (count .entry)) (now (count .exit)) r ⌝ }
 {
-    match parse_display_sets(stream, sets) {
-        SetsAnswer::Refused(why) => why.number(),
-        SetsAnswer::Sets(found) => {
-            *count = found as u64;
-            0
-        }
-    }
+    pgs_c_set::sets::pgs_parse_display_sets(stream, sets, count)
 }
 
 #[no_mangle]
@@ -32,11 +22,5 @@ pub extern "C" fn pgs_reassemble_objects(
 ) -> u8
     ensures { λ r. ⌜ ObjectsCall (now (stream .entry)) set (now (scratch .entry)) (now (scratch .exit)) (now (objects .entry)) (now (objects .exit)) (now (count .entry)) (now (count .exit)) r ⌝ }
 {
-    match reassemble_objects(stream, set as usize, scratch, objects) {
-        ObjectsAnswer::Refused(why) => why.number(),
-        ObjectsAnswer::Objects(found) => {
-            *count = found as u64;
-            0
-        }
-    }
+    pgs_c_set::sets::pgs_reassemble_objects(stream, set, scratch, objects, count)
 }

@@ -6,3 +6,6 @@ pub mod StoreLaws
 pub mod ObjectLaws
 pub mod NarrowLaws
 pub mod ColorLaws
+pub mod EntryLaws
+pub mod RenderLaws
+pub mod OpeningLaws

@@ -193,7 +193,7 @@ module _ (s : List ℕ) (at : ℕ) where
   pub head-of : {h : SegmentHeader} → gives h ≡ headerOf (take (length s - at) (drop at s)) → h ≡ headerFields (drop at s)
   head-of e = gave-value (headerVerdict (take (length s - at) (drop at s))) _ e ∙ ap headerFields (to-end at s)
 
-  no-head : {k : ℕ} → stepVerdict (drop at s) ≡ accepted → refuses k ≡ headerOf (take (length s - at) (drop at s)) → ⊥
+  pub no-head : {k : ℕ} → stepVerdict (drop at s) ≡ accepted → refuses k ≡ headerOf (take (length s - at) (drop at s)) → ⊥
   no-head {k} ok e =
       let q : refused k ≡ accepted
       = sym (turned-down (headerVerdict (take (length s - at) (drop at s))) (headerFields (take (length s - at) (drop at s))) e)

@@ -16,7 +16,7 @@ use Rattle.pgs_set.specs.Objects.{Chain, objectId, widthOf, heightOf, dataOf}
 use Rattle.pgs_set.specs.Reassembly.{copied, copiedData, joinedData, objectRow, rowsFrom, shownBy}
 use Rattle.pgs_set.proofs.Lists.{drop-next}
 use Rattle.pgs_render.specs.Images.{areaOf, bitmapsVerdict, hasObject, placementsVerdict}
-use Rattle.pgs_render.specs.Rows.{rowArea, rowJoined, rowsNeed, rowsReading, hasRow, allPresent}
+use Rattle.pgs_render.specs.Rows.{rowArea, rowJoined, rowsJoined, rowsNeed, rowsReading, hasRow, allPresent}
 
 -- how much of the scratch the joined data of a row takes
 pub joined-none : (r : List ℕ) → getD r 4 0 ≡ 0 → 0 ≡ rowJoined r
@@ -53,6 +53,29 @@ module _ (rows : List (List ℕ)) (room : ℕ) where
 
     pub fits-all : length rows ≤ i → true ≡ leb (rowsNeed rows) room
     fits-all h = sym (le-leb 0 left (omega arith)) ∙ ap (λ (l : List (List ℕ)). leb (rowsNeed l) left) (sym (drop-of-length-le rows h)) ∙ c .fits
+
+-- the joined data of i rows is counted
+pub record Totaling (rows : List (List ℕ)) (i total : ℕ) : Type 0 where
+  pub within : i ≤ length rows
+  pub sum : total + rowsJoined (drop i rows) ≡ rowsJoined rows
+
+module _ (rows : List (List ℕ)) where
+  pub totaling : Totaling rows 0 0
+  totaling = record { within = omega arith; sum = omega arith }
+
+  module _ {i total : ℕ} (c : Totaling rows i total) where
+    module _ (m : i < length rows) {joined : ℕ} (j : joined ≡ rowJoined (getD rows i [])) where
+      more : rowsJoined (drop i rows) ≡ joined + rowsJoined (drop (i + 1) rows)
+      more = ap rowsJoined (drop-next rows i [] m) ∙ (λ k. sym j k + rowsJoined (drop (i + 1) rows))
+
+      pub totals-within : total + joined ≤ rowsJoined rows
+      totals-within = omega (arith, more, c .sum)
+
+      pub totals-on : Totaling rows (i + 1) (total + joined)
+      totals-on = record { within = omega arith; sum = omega (arith, more, c .sum) }
+
+    pub totaled : length rows ≤ i → total ≡ rowsJoined rows
+    totaled h = omega (arith, c .sum, ap rowsJoined (drop-of-length-le rows h))
 
 -- i bitmaps are read, and are accepted
 pub record Reading (s scratch : List ℕ) (rows : List (List ℕ)) (i : ℕ) : Type 0 where
@@ -144,6 +167,17 @@ need-of at (c ∷ cs) =
     size true = refl
     size false = refl
 
+pub total-of : (at : ℕ) (cs : List Chain) → rowsJoined (rowsFrom at cs) ≡ length (joinedData cs)
+total-of at [] = refl
+total-of at (c ∷ cs) =
+    let ih = total-of (at + length (copiedData c)) cs in
+    let one = size (copied c) in
+    omega (arith, ih, one, length-append (copiedData c) (joinedData cs))
+  where
+    size : (b : Bool) → pick (eqb (pick b 1 0) 0) 0 (length (dataOf c)) ≡ length (pick b (dataOf c) [])
+    size true = refl
+    size false = refl
+
 pub reading-of : (s scratch : List ℕ) (at : ℕ) (cs : List Chain) → map (shownBy s scratch) (rowsFrom at cs) ≡ map dataOf cs
     → rowsReading s scratch (rowsFrom at cs) ≡ bitmapsVerdict cs
 reading-of s scratch at [] e = refl
@@ -157,11 +191,19 @@ has-of at id [] = refl
 has-of at id (c ∷ cs) = ap (pick (eqb (objectId c) id) true) (has-of (at + length (copiedData c)) id cs)
 
 pub present-of : (at : ℕ) (cs : List Chain) (ps : List CompositionObject)
-    → unless 33 (allPresent (rowsFrom at cs) (map placementRow ps)) ≡ placementsVerdict cs ps
+    → unless 33 (allPresent (rowsFrom at cs) (map placementRow ps)) ≡ placementsVerdict (hasObject cs) ps
 present-of at cs [] = refl
 present-of at cs (p ∷ ps) = go (hasRow (rowsFrom at cs) (p .«object_id»)) (has-of at (p .«object_id») cs) (present-of at cs ps)
   where
-    go : (b : Bool) → b ≡ hasObject cs (p .«object_id») → unless 33 (allPresent (rowsFrom at cs) (map placementRow ps)) ≡ placementsVerdict cs ps
-        → unless 33 (pick b (allPresent (rowsFrom at cs) (map placementRow ps)) false) ≡ andThen (unless 33 (hasObject cs (p .«object_id»))) (placementsVerdict cs ps)
-    go true e ih = ih ∙ ap (λ (b : Bool). andThen (unless 33 b) (placementsVerdict cs ps)) e
-    go false e ih = ap (λ (b : Bool). andThen (unless 33 b) (placementsVerdict cs ps)) e
+    go : (b : Bool) → b ≡ hasObject cs (p .«object_id») → unless 33 (allPresent (rowsFrom at cs) (map placementRow ps)) ≡ placementsVerdict (hasObject cs) ps
+        → unless 33 (pick b (allPresent (rowsFrom at cs) (map placementRow ps)) false) ≡ andThen (unless 33 (hasObject cs (p .«object_id»))) (placementsVerdict (hasObject cs) ps)
+    go true e ih = ih ∙ ap (λ (b : Bool). andThen (unless 33 b) (placementsVerdict (hasObject cs) ps)) e
+    go false e ih = ap (λ (b : Bool). andThen (unless 33 b) (placementsVerdict (hasObject cs) ps)) e
+
+-- 24 to 32, then 33, as the code tests them
+module _ {read : Verdict} where
+  pub content-refused : (there : Bool) {k : ℕ} → refused k ≡ read → refused k ≡ andThen read (unless 33 there)
+  content-refused there e = ap (λ (v : Verdict). andThen v (unless 33 there)) e
+
+  pub content-tested : (there : Bool) {b : Bool} → accepted ≡ read → b ≡ there → unless 33 b ≡ andThen read (unless 33 there)
+  content-tested there e q = λ j. andThen (e j) (unless 33 (q j))

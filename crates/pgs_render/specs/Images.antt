@@ -37,7 +37,7 @@ abbrev pub hasObject : List Chain → ℕ → Bool
 hasObject [] id = false
 hasObject (c ∷ cs) id = pick (eqb (objectId c) id) true (hasObject cs id)
 
--- 33: "a placement's id is not in the set"
-abbrev pub placementsVerdict : List Chain → List CompositionObject → Verdict
-placementsVerdict cs [] = accepted
-placementsVerdict cs (p ∷ ps) = andThen (unless 33 (hasObject cs (p .«object_id»))) (placementsVerdict cs ps)
+-- 33: "a placement's id is not in the set", by which ids are known
+abbrev pub placementsVerdict : (ℕ → Bool) → List CompositionObject → Verdict
+placementsVerdict known [] = accepted
+placementsVerdict known (p ∷ ps) = andThen (unless 33 (known (p .«object_id»))) (placementsVerdict known ps)

@@ -2,3 +2,4 @@ pub mod Palettes
 pub mod Images
 pub mod Rendering
 pub mod Rows
+pub mod Steps

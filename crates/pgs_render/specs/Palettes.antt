@@ -3,12 +3,11 @@
 use mathlib.Core.Bool.{Bool, true, false}
 use mathlib.Core.List.{List, [], _∷_, _++_, map}
 use Prim.Native.Nat.{ℕ}
-use Rattle.pgs_base.specs.Bytes.{num}
 use Rattle.pgs_base.specs.Outcome.{pick}
 use Rattle.pgs_base.specs.declared.«segment_type».SegmentType.{SegmentType}
 use Rattle.pgs_base.specs.declared.«segment_type».SegmentType.the-variants.{Pds, Ods, Pcs, Wds, End, Other}
 use Rattle.pgs_segment.specs.OneSegment.{segmentType, bodyAt}
-use Rattle.pgs_segment.specs.PdsBody.{entryRows}
+use Rattle.pgs_segment.specs.PdsBody.{entryRows, pdsOf}
 use Rattle.pgs_color.specs.Palette.{Entry, entryOf, applying, Conversion, colorAt}
 use Rattle.pgs_color.specs.Table.{pixelOf}
 
@@ -26,7 +25,7 @@ entriesIn body = map entryOf (entryRows body)
 
 -- those that apply, where the PCS names the palette `named`
 abbrev pub entriesNamed : ℕ → List ℕ → List Entry
-entriesNamed named body = applying named (num 1 0 body) (entriesIn body)
+entriesNamed named body = applying named (pdsOf body .«palette_id») (entriesIn body)
 
 -- the entries of segments, in order
 abbrev pub entriesAmong : ℕ → List (List ℕ) → List Entry

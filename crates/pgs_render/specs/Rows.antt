@@ -32,6 +32,11 @@ abbrev pub rowsNeed : List (List ℕ) → ℕ
 rowsNeed [] = 0
 rowsNeed (r ∷ rs) = rowJoined r + rowArea r + rowsNeed rs
 
+-- J: the bytes of the scratch that the joined data takes
+abbrev pub rowsJoined : List (List ℕ) → ℕ
+rowsJoined [] = 0
+rowsJoined (r ∷ rs) = rowJoined r + rowsJoined rs
+
 -- 24 to 32 of each object, whose data its record shows
 abbrev pub rowsReading : List ℕ → List ℕ → List (List ℕ) → Verdict
 rowsReading s scratch [] = accepted

@@ -2,4 +2,5 @@
 mod objects;
 mod painting;
 mod palette;
+pub mod render;
 mod storing;

@@ -1,11 +1,22 @@
 // The tests of a display set's objects and placements, before their bitmaps are stored: 01, 'Why a call is turned down'.
+use pgs_base::refusal::Refusal;
 use pgs_bitmap::bitmap::Decoded;
 use pgs_bitmap::bitmap::check_rle;
 use pgs_set::object::object_data;
 ghost use mathlib.Core.Path.{_≡_};
+ghost use Prim.Native.Nat.{_<_, _^_};
 ghost use lib.Dec.{leb};
+ghost use Rattle.pgs_base.specs.Outcome.{andThen, unless};
 ghost use Rattle.pgs_bitmap.specs.Decoding.{outcome};
-ghost use Rattle.pgs_render.specs.Rows.{Narrow, rowJoined, rowsNeed, rowsReading, hasRow, allPresent};
+ghost use Rattle.pgs_render.specs.Rows.{
+  Narrow,
+  rowJoined,
+  rowsJoined,
+  rowsNeed,
+  rowsReading,
+  hasRow,
+  allPresent,
+};
 
 // How many bytes of the scratch the joined data of an object takes.
 fn joined_length(row: [u64; 7]) -> usize
@@ -38,6 +49,21 @@ pub(crate) fn objects_fit(rows: &[[u64; 7]], room: usize) -> bool
         i += 1;
     }
     true
+}
+
+// How many bytes of the scratch the joined data of objects takes.
+pub(crate) fn joined_total(rows: &[[u64; 7]]) -> usize
+    requires { ⌜ rowsJoined (now rows) < 2 ^ 64 ⌝ }
+    ensures { λ r. ⌜ r ≡ rowsJoined (now (rows .entry)) ⌝ }
+{
+    let mut i: usize = 0;
+    let mut total: usize = 0;
+    while i < rows.len() {
+        let row = rows[i];
+        total += joined_length(row);
+        i += 1;
+    }
+    total
 }
 
 // Reads every bitmap through without storing it.
@@ -90,4 +116,26 @@ pub(crate) fn all_present(rows: &[[u64; 7]], placements: &[[u16; 10]]) -> bool
         }
     }
     true
+}
+
+// 24 to 33 of a set, without storing.
+pub(crate) fn check_content<'a>(
+    s: &'a [u8],
+    scratch: &'a [u8],
+    rows: &[[u64; 7]],
+    placements: &[[u16; 10]],
+) -> Decoded
+    requires { ⌜ Narrow (now rows) ⌝ }
+    ensures { λ r. ⌜ outcome r ≡ andThen (rowsReading (now (s .entry)) (now (scratch .entry)) (now (rows .entry))) (unless 33 (allPresent (now (rows .entry)) (now (placements .entry)))) ⌝ }
+{
+    match check_bitmaps(s, scratch, rows) {
+        Decoded::Refused(why) => Decoded::Refused(why),
+        Decoded::Accepted => {
+            if all_present(rows, placements) {
+                Decoded::Accepted
+            } else {
+                Decoded::Refused(Refusal::ObjectNotInSet)
+            }
+        }
+    }
 }

@@ -1,3 +1,0 @@
-pub mod CallLaws
-pub mod ObjectLaws
-pub mod WriteCalls

@@ -1,0 +1,2 @@
+// The call of the C interface for painting. `pgs_c` exports it.
+pub mod render;

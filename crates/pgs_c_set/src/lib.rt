@@ -1,0 +1,3 @@
+// The calls of the C interface for display sets, their objects and their cards. `pgs_c` exports them.
+pub mod cards;
+pub mod sets;

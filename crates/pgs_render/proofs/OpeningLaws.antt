@@ -1,0 +1,203 @@
+-- Finding a set's objects and its PCS, before it is painted. Assumes nothing.
+use mathlib.Core.Path.{_≡_, refl, sym, ap, subst, _∙_}
+use mathlib.Core.Bool.{Bool, true, false}
+use mathlib.Core.List.{List, [], _∷_, _++_, map}
+use Prim.Native.Nat.{ℕ, suc, _+_, _-_, _≤_, _<_}
+use native.Mathlib.Omega.{arith}
+use borrow.Author.Tests.{le-leb}
+use lib.Dec.{ltb}
+use lib.ListN.{length, take, drop, length-append, length-map}
+use lib.Seq.{take-at}
+use Rattle.pgs_base.specs.Bytes.{Bytes}
+use Rattle.pgs_base.specs.Outcome.{Verdict, accepted, refused, Outcome, gives, refuses, outcomeOf, andThen, unless, needing, laid, delivery, Delivered}
+use Rattle.pgs_base.specs.declared.«segment_type».SegmentType.{SegmentType}
+use Rattle.pgs_base.specs.declared.«segment_type».SegmentType.the-variants.{Pds, Ods, Pcs, Wds, End, Other}
+use Rattle.pgs_base.proofs.Outcomes.{gave, gave-value, turned-down, first-accepts, second-holds, delivered, delivered-value, delivered-refusal}
+use Rattle.pgs_color.specs.Bytes.{rgbOf}
+use Rattle.pgs_segment.specs.Fields.{bodyVerdict}
+use Rattle.pgs_segment.specs.Header.{ptsOf, headerFields, headerOf}
+use Rattle.pgs_segment.specs.OneSegment.{segmentType, segmentVerdict, usedBy, bodyAt}
+use Rattle.pgs_segment.specs.PcsBody.{placementOf, placementSize, placementRow, placementCount, placementsOf, placementRows, pcsOf, pcsVerdict}
+use Rattle.pgs_segment.specs.Stream.{stepVerdict}
+use Rattle.pgs_segment.specs.declared.header.SegmentHeader.{SegmentHeader}
+use Rattle.pgs_segment.specs.declared.pcs.Pcs as composition
+use Rattle.pgs_segment.proofs.ReadingLaws.{own-body}
+use Rattle.pgs_segment.proofs.RecordLaws.{records-length}
+use Rattle.pgs_segment.proofs.SegmentLaws.{accepted-body}
+use Rattle.pgs_set.specs.Objects.{Chain, objectsOf, objectsVerdict, objectLimit, fragmentsOf, fragmentsVerdict, setNumber, setVerdict}
+use Rattle.pgs_set.specs.Reassembly.{copiedData, rowsFrom, objectRows}
+use Rattle.pgs_set.specs.Sets.{DisplaySet, kindVerdict, throughEnd, setsVerdict, setCount, setRow}
+use Rattle.pgs_set.specs.Walks.{SetStands, FoundSet, piecesAt, setAt}
+use Rattle.pgs_set.specs.declared.grouping.Grouping.the-variants.{Outside}
+use Rattle.pgs_set.proofs.FragmentLaws.{lent-body}
+use Rattle.pgs_set.proofs.ObjectLaws.{stands-here, stands-open}
+use Rattle.pgs_set.proofs.SetLaws.{size-read, set-here, read-within}
+use Rattle.pgs_set.proofs.WalkLaws.{kind-accepted}
+use Rattle.pgs_render.specs.Rendering.{compositionOf, placementsIn, roomVerdict, answerOf, Rendered}
+use Rattle.pgs_render.specs.Steps.{Listed, Opened, Composed, Placed}
+use Rattle.pgs_render.proofs.EntryLaws.{num-one}
+use Rattle.pgs_render.proofs.ObjectLaws.{few-objects}
+use Rattle.pgs_render.proofs.PaletteLaws.{no-head}
+use Rattle.pgs_render.proofs.RenderLaws.{renders-none}
+
+-- a verdict does not accept and refuse
+not-both : {v : Verdict} {k : ℕ} → v ≡ accepted → v ≡ refused k → ⊥
+not-both e q = omega (arith, ap refusals (sym e ∙ q))
+  where
+    refusals : Verdict → ℕ
+    refusals accepted = 0
+    refusals (refused j) = 1
+
+-- records that fill the front of a list that has room for them
+module _ {X : Type 0} {v : Verdict} {x : X} {rows before after : List (List ℕ)} {y : X} (d : Delivered v x rows before after (gives y)) where
+  filled : after ≡ rows ++ drop (length rows) before
+  filled = d .written ∙ ap (λ (w : Verdict). laid w rows before) (delivered d)
+
+  pub front-within : {n : ℕ} → n ≡ length rows → n ≤ length after
+  front-within q = omega (arith, q, ap length filled, length-append rows (drop (length rows) before))
+
+  pub front : {n : ℕ} → n ≡ length rows → take n after ≡ rows
+  front {n} q = ap (take n) filled ∙ take-at rows (drop (length rows) before) n (sym q)
+
+  pub front-length : {n : ℕ} → n ≡ length rows → n ≡ length (take n after)
+  front-length q = q ∙ sym (ap length (front q))
+
+-- painting ends, and this is the answer
+pub answers : {verdict : Verdict} {d : DisplaySet} {cs : List Chain} {scratch scratch′ plane plane′ : List ℕ} {a r : Outcome (ℕ × ℕ × ℕ)}
+    → Rendered rgbOf verdict d cs scratch scratch′ plane plane′ a → r ≡ a → Rendered rgbOf verdict d cs scratch scratch′ plane plane′ r
+answers w e = record { answered = e ∙ w .answered; stored = w .stored; shown = w .shown }
+
+-- the objects
+module _ (k : ℕ) (s : List ℕ) where
+  rows-length : (at : ℕ) (xs : List Chain) → length (rowsFrom at xs) ≡ length xs
+  rows-length at [] = refl
+  rows-length at (c ∷ xs) = ap suc (rows-length (at + length (copiedData c)) xs)
+
+  few-listed : objectsVerdict k s ≡ accepted → length (objectRows (objectsOf k s)) ≤ 64
+  unfolding objectsOf
+  few-listed e =
+      omega
+      (arith, rows-length 0 (objectsOf k s), few-objects objectLimit (fragmentsOf (setNumber k s)) (second-holds (unless 36 (ltb k (setCount s))) _ (second-holds (setsVerdict s) _ e)))
+
+  module _ {list list′ : List (List ℕ)} where
+    pub lists-refused : {n : ℕ} → Delivered (objectsVerdict k s) (length (objectsOf k s)) (objectRows (objectsOf k s)) list list′ (refuses n)
+        → length list ≡ 64 → objectsVerdict k s ≡ refused n
+    lists-refused {n} d size = go (objectsVerdict k s) refl (delivered-refusal d)
+      where
+        go : (v : Verdict) → objectsVerdict k s ≡ v → andThen v (needing (length (objectRows (objectsOf k s))) (length list)) ≡ refused n → v ≡ refused n
+        go accepted e q =
+            absurd (not-both (ap (unless 34) (le-leb (length (objectRows (objectsOf k s))) (length list) (omega (arith, few-listed e)))) q)
+        go (refused m) e q = q
+
+    module _ {n : ℕ} (d : Delivered (objectsVerdict k s) (length (objectsOf k s)) (objectRows (objectsOf k s)) list list′ (gives n)) where
+      pub lists-count : n ≡ length (objectRows (objectsOf k s))
+      lists-count = delivered-value d ∙ sym (rows-length 0 (objectsOf k s))
+
+      pub lists-objects : Listed k s (take n list′)
+      lists-objects =
+          record {
+            taken = first-accepts (objectsVerdict k s) (needing (length (objectRows (objectsOf k s))) (length list)) (delivered d);
+            objects = front d lists-count;
+          }
+
+  pub objects-refused : {n : ℕ} {scratch plane : List ℕ} → objectsVerdict k s ≡ refused n → Rendered rgbOf (objectsVerdict k s) (setNumber k s) (objectsOf k s) scratch scratch plane plane (refuses n)
+  objects-refused {n} {scratch} {plane} e =
+      answers
+      (renders-none k s (ap (λ (v : Verdict). andThen v (roomVerdict (setNumber k s) (objectsOf k s) (length scratch) (length plane))) e)) refl
+
+-- the place of the PCS
+module _ (k : ℕ) (s : List ℕ) {rows : List (List ℕ)} (l : Listed k s rows) where
+  set-accepted : setVerdict k s ≡ accepted
+  set-accepted =
+      λ j.
+      andThen (first-accepts (setsVerdict s) _ (l .taken) j)
+      (first-accepts (unless 36 (ltb k (setCount s))) (fragmentsVerdict objectLimit (fragmentsOf (setNumber k s))) (second-holds (setsVerdict s) _ (l .taken)) j)
+
+  pub always-found : {n : ℕ} → FoundSet s k (refuses n) → ⊥
+  always-found f = not-both set-accepted (turned-down (setVerdict k s) (setRow (setNumber k s)) (f .answered))
+
+  pub found-time : {place end pts : ℕ} → FoundSet s k (gives (place ∷ end ∷ pts ∷ [])) → pts ≡ ptsOf (setNumber k s .opening)
+  found-time f = let e = gave-value (setVerdict k s) (setRow (setNumber k s)) (f .answered) in cc
+
+-- the PCS
+only-pcs : (t : SegmentType) → kindVerdict Outside t ≡ accepted → t ≡ Pcs
+only-pcs Pcs e = refl
+only-pcs Wds e = cc
+only-pcs Pds e = cc
+only-pcs Ods e = cc
+only-pcs End e = cc
+only-pcs (Other v) e = cc
+
+module _ (k : ℕ) (s : List ℕ) {place : ℕ} (st : SetStands s k place) where
+  ok : stepVerdict (drop place s) ≡ accepted
+  ok = stands-here s k st
+
+  itself : setNumber k s
+      ≡ record { place = place; opening = take (usedBy (drop place s)) (drop place s); others = throughEnd (piecesAt s (place + usedBy (drop place s))) }
+  itself = sym (st .found) ∙ set-here s (st .standing) (st .more)
+
+  pub head-there : {n : ℕ} → refuses n ≡ headerOf (take (length s - place) (drop place s)) → ⊥
+  head-there e = no-head s place ok e
+
+  module _ {h : SegmentHeader} (e : h ≡ headerFields (drop place s)) where
+    pub found-within : place + (13 + h .«segment_size») ≤ length s
+    found-within = read-within s place ok e
+
+    pub found-opened : Opened k s (place + (13 + h .«segment_size»))
+    found-opened =
+        record {
+          inside = stands-open s k st e;
+          others =
+              ap (λ (n : ℕ). throughEnd (piecesAt s (place + n))) (size-read (drop place s) e) ∙ sym (ap (λ (d : DisplaySet). d .others) itself);
+        }
+
+    pub found-composed : {pts : ℕ} → pts ≡ ptsOf (setNumber k s .opening)
+        → Composed k s (take (place + (13 + h .«segment_size») - (place + 13)) (drop (place + 13) s)) pts
+    found-composed t =
+        record {
+          whole =
+              lent
+              ∙ sym (own-body (drop place s) (first-accepts (segmentVerdict (drop place s)) _ ok))
+              ∙ sym (ap (λ (d : DisplaySet). bodyAt (d .opening)) itself);
+          good =
+              ap pcsVerdict lent
+              ∙ ap (λ (t : SegmentType). bodyVerdict t (bodyAt (drop place s))) (sym (only-pcs (segmentType (drop place s)) (kind-accepted s place ok (st .standing))))
+              ∙ accepted-body (drop place s) (first-accepts (segmentVerdict (drop place s)) _ ok);
+          time = t;
+        }
+      where
+        lent : take (place + (13 + h .«segment_size») - (place + 13)) (drop (place + 13) s) ≡ bodyAt (drop place s)
+        lent = lent-body s place (size-read (drop place s) e)
+
+-- its placements
+module _ (b : List ℕ) where
+  placement-list : placementRows b ≡ map placementRow (placementsOf b)
+  unfolding placementRows
+  placement-list = refl
+
+  placement-count : length (placementRows b) ≡ placementCount b
+  placement-count =
+      ap length placement-list ∙ length-map (placementsOf b) placementRow ∙ records-length placementOf placementSize (placementCount b) (drop 11 b)
+
+  module _ {list list′ : List (List ℕ)} where
+    pub always-parsed : {n : ℕ} → Delivered {X = composition.Pcs × ℕ} (pcsVerdict b) (pcsOf b, placementCount b) (placementRows b) list list′ (refuses n)
+        → length list ≡ 255 → pcsVerdict b ≡ accepted → Bytes b → ⊥
+    always-parsed d size good h =
+        not-both
+        (λ j. andThen (good j) (unless 34 (le-leb (length (placementRows b)) (length list) (omega (arith, placement-count, num-one 10 b h)) j)))
+        (delivered-refusal d)
+
+    module _ {p : composition.Pcs} {n : ℕ} (d : Delivered {X = composition.Pcs × ℕ} (pcsVerdict b) (pcsOf b, placementCount b) (placementRows b) list list′ (gives (p, n))) where
+      pub parsed-count : n ≡ length (placementRows b)
+      parsed-count = ap (λ (x : composition.Pcs × ℕ). x .1) (delivered-value d) ∙ sym placement-count
+
+      pub parsed-placed : (k : ℕ) (s : List ℕ) {pts : ℕ} → Composed k s b pts → Placed k s p (take n list′)
+      parsed-placed k s c =
+          record {
+            numbers = ap (λ (x : composition.Pcs × ℕ). x .0) (delivered-value d) ∙ ap pcsOf (c .whole);
+            records = front d parsed-count ∙ placement-list ∙ ap (λ (x : List ℕ). map placementRow (placementsOf x)) (c .whole);
+          }
+
+      pub parsed-answer : (k : ℕ) (s : List ℕ) {pts : ℕ} → Composed k s b pts → (v : Verdict) {r : Outcome (ℕ × ℕ × ℕ)}
+          → r ≡ outcomeOf v (p .width, p .height, pts) → r ≡ outcomeOf v (answerOf (setNumber k s))
+      parsed-answer k s c v e = e ∙ (λ j. outcomeOf v (parsed-placed k s c .numbers j .width, parsed-placed k s c .numbers j .height, c .time j))
