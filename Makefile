@@ -23,8 +23,8 @@ lib: $(LIBRARY)
 	@mkdir -p dist
 	@cp $(LIBRARY) include/pgs.h dist/
 
-# It is proved and built again where something of its crates is newer.
-CRATES = $(wildcard $(addprefix crates/,pgs_c $(shell sed -n 's/^pgs_c: *//p' crates.txt)))
+# It is proved and built again where something of the crates that are no programs is newer.
+CRATES = $(patsubst %/src/lib.rt,%,$(wildcard crates/*/src/lib.rt))
 $(LIBRARY): crates.txt $(shell find $(CRATES) -path '*/src/*.rt' -o -path '*/specs/*.antt' -o -path '*/proofs/*.antt')
 	rt staticlib pgs_c
 	@touch $@

@@ -31,6 +31,8 @@ pub fn run(seed: u64) {
     row("reading and writing", writing(&hour));
     row("bitmap 1920 by 1080, text-like", bitmap(&text));
     row("bitmap 1920 by 1080, noisy", bitmap(&noise));
+    row("painting a set, 1920 by 1080", painting(&sentence(&mut p)));
+    row("browsing: an hour, 100 planes", browsing(&hour, 100));
 
     println!("\nmilliseconds of the library, as the input grows; what {LARGEST} times the input takes\n");
     let heads = STEPS.map(|step| format!("{step:>8} x"));
@@ -46,6 +48,17 @@ pub fn run(seed: u64) {
     };
     growth("bitmap, text-like", |times| bitmap(&lines(&text, times)));
     growth("bitmap, noisy", |times| bitmap(&lines(&noise, times)));
+}
+
+/// A set of some 60 letters and accents.
+fn sentence(p: &mut Prng) -> Vec<u8> {
+    loop {
+        let set = captions(p, 1);
+        let placements = set[13 + 10];
+        if placements >= 58 {
+            return set;
+        }
+    }
 }
 
 /// The best time of each side.
@@ -143,4 +156,52 @@ fn bitmap(pixels: &[u8]) -> Times {
     let mut out = vec![0; pixels.len()];
     let ours = || assert!(plain::decode_rle(black_box(&data), width, height, &mut out) == 0);
     timed(ours, || drop(black_box(pgs::decode_rle(black_box(&data), width, height))))
+}
+
+/// The set 0 of a stream, painted.
+fn painting(stream: &[u8]) -> Times {
+    let sets = pgs::parse_display_sets(stream).expect("good captions");
+    let mut room = Room::new();
+    let ours = || room.paint(black_box(stream));
+    timed(ours, || drop(black_box(black_box(&sets[0]).render().expect("a set that can be painted"))))
+}
+
+/// The sets of a stream, then the planes of some of them, from the first to the last; the library is handed the bytes
+/// of each set alone.
+fn browsing(stream: &[u8], planes: usize) -> Times {
+    let mut sets: Vec<SetRecord> = vec![[0; 3]; stream.len() / 37];
+    let mut room = Room::new();
+    let ours = || {
+        let mut count = [0];
+        assert!(plain::parse_display_sets(black_box(stream), &mut sets, &mut count) == 0);
+        let step = count[0] as usize / planes;
+        for [from, to, _] in sets[..count[0] as usize].iter().step_by(step).take(planes) {
+            room.paint(&stream[*from as usize..*to as usize]);
+        }
+    };
+    let theirs = || {
+        let sets = pgs::parse_display_sets(black_box(stream)).expect("good captions");
+        for set in sets.iter().step_by(sets.len() / planes).take(planes) {
+            drop(black_box(set.render().expect("a set that can be painted")));
+        }
+    };
+    timed(ours, theirs)
+}
+
+/// Memory that is lent for painting, again and again.
+struct Room {
+    scratch: Vec<u8>,
+    plane: Vec<u8>,
+}
+
+impl Room {
+    fn new() -> Self {
+        Room { scratch: vec![0; 1 << 20], plane: vec![0; 4 * SCREEN.0 * SCREEN.1] }
+    }
+
+    fn paint(&mut self, stream: &[u8]) {
+        let mut shown = [0; 3];
+        assert!(plain::render(stream, 0, &mut self.scratch, &mut self.plane, &mut shown) == 0);
+        black_box(&self.plane);
+    }
 }

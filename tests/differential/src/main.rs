@@ -11,6 +11,7 @@ mod generate;
 mod lent;
 mod library;
 mod numbers;
+mod paint;
 mod prng;
 mod record;
 mod regressions;
@@ -37,11 +38,12 @@ differential                                    the examples, then the compariso
 differential examples                           the examples alone
 differential compare [--seed N] [--streams N] [--scale N] [--layer NAME]
                                                 the comparison alone, with N random streams, or N times as many as
-                                                usual; NAME is segments, writer, bitmap, color or sets
+                                                usual; NAME is segments, writer, bitmap, color, sets or paint
 differential bench [--seed N]                   times of both sides
 differential record FOLDER                      answers of the Rust, into the files stdin and stdout of pgs_replay
 differential stream HEX                         one stream
 differential sets HEX                           one stream: its sets and their objects
+differential paint HEX                          one stream: the planes of its sets
 differential browse HEX                         one stream: its sets, and the objects of each from its bytes alone
 differential writes HEX                         one stream: its segments written again, one by one and as a list
 differential fields HEX                         fields to write: the writer (14, 15, 16, 17, 80, or 00 for unknown
@@ -55,7 +57,8 @@ differential palettes HEX                       palettes: the named id, then for
 HEX is hexadecimal digits, or @ and the name of a file that has them";
 
 /// The layers in the order in which they are compared.
-const LAYERS: [Layer; 5] = [segments::LAYER, writer::LAYER, bitmap::LAYER, color::LAYER, sets::LAYER];
+const LAYERS: [Layer; 6] =
+    [segments::LAYER, writer::LAYER, bitmap::LAYER, color::LAYER, sets::LAYER, paint::LAYER];
 
 fn main() -> ExitCode {
     let words: Vec<String> = std::env::args().skip(1).collect();

@@ -95,7 +95,7 @@ fn sort(command: &str, input: &[u8]) -> u16 {
     let number = |answer: Option<u8>| answer.unwrap_or(0) as u16;
     match command {
         "stream" | "writes" => number(segments::oracle::segments(input).err()),
-        "sets" => match sets::oracle::sets(input) {
+        "sets" | "browse" | "paint" => match sets::oracle::sets(input) {
             Err(refused) => refused as u16,
             Ok(sets) => number(sets.iter().find_map(|set| sets::oracle::objects(input, set).err())),
         },
@@ -237,6 +237,7 @@ fn calls(command: &str, input: &[u8]) -> Vec<Call> {
             None => vec![],
         },
         "color" => vec![Call::new(b'Y', input)],
+        "paint" | "browse" => vec![],
         "palettes" => palettes(input),
         command => body_call(kind_of(command), input).into_iter().collect(),
     }

@@ -106,7 +106,7 @@ fn cuts(to: &mut Sink) {
 }
 
 /// Sets of objects with one or two fragments each, then nothing or one fragment more: new, known, or loose.
-fn many_objects(to: &mut Sink) {
+pub fn many_objects(to: &mut Sink) {
     for count in 63..=66u16 {
         for shape in 0..4 {
             let whole = |id: u16| ods(id, 1, 0xC0, 6, &id.to_be_bytes());
