@@ -1,7 +1,11 @@
 /*
- * Lists the display sets of a stream.
+ * Lists the display sets of a stream, or paints one of them.
  *
- *     cc -Idist -o list_sets bindings/c/list_sets.c dist/libpgs_c.a && ./list_sets FILE
+ *     cc -Idist -o list_sets bindings/c/list_sets.c dist/libpgs_c.a
+ *     ./list_sets FILE
+ *     ./list_sets FILE SET PLANE
+ *
+ * The plane is written as a PAM picture with red, green, blue and alpha.
  */
 #include "pgs.h"
 
@@ -90,13 +94,68 @@ static uint8_t list(const uint8_t *stream, size_t length, pgs_set *sets, uint8_t
     return refused;
 }
 
+/* Writes a painted plane; 0 where that fails. */
+static int write_picture(const char *name, const pgs_shown shown, const uint8_t *plane, size_t length) {
+    FILE *file = fopen(name, "wb");
+    int written = file != NULL;
+
+    if (written) {
+        fprintf(file, "P7\nWIDTH %u\nHEIGHT %u\nDEPTH 4\nMAXVAL 255\nTUPLTYPE RGB_ALPHA\nENDHDR\n",
+                (unsigned)shown[PGS_SHOWN_WIDTH], (unsigned)shown[PGS_SHOWN_HEIGHT]);
+        written = fwrite(plane, 1, length, file) == length;
+    }
+    if (file != NULL && fclose(file) != 0) written = 0;
+    return written;
+}
+
+/* Paints a set, whose bytes are a stream of one set, and writes the plane. */
+static uint8_t paint(const uint8_t *set, size_t length, uint8_t *joined, const char *name) {
+    pgs_pcs pcs;
+    pgs_placement placements[MOST_PLACEMENTS];
+    pgs_object objects[PGS_MOST_OBJECTS];
+    pgs_shown shown;
+    uint64_t placed, count, needed = length;
+    size_t area, i;
+    uint8_t *scratch, *plane;
+    uint8_t refused = pgs_parse_pcs(set + 13, (size_t)set[11] * 256 + set[12], &pcs, placements, MOST_PLACEMENTS, &placed);
+
+    if (!refused) refused = pgs_reassemble_objects(set, length, 0, joined, length, objects, PGS_MOST_OBJECTS, &count);
+    if (refused) return refused;
+    /* no more than the set's bytes are joined; then come the bitmaps */
+    for (i = 0; i < count; i++) needed += objects[i][PGS_OBJECT_WIDTH] * objects[i][PGS_OBJECT_HEIGHT];
+    area = (size_t)4 * pcs[PGS_PCS_WIDTH] * pcs[PGS_PCS_HEIGHT];
+    scratch = malloc((size_t)needed);
+    plane = malloc(area + 1);
+    refused = PGS_BUFFER_TOO_SMALL;
+    if (scratch != NULL && plane != NULL) refused = pgs_render(set, length, 0, scratch, (size_t)needed, plane, area, &shown);
+    if (!refused && !write_picture(name, shown, plane, area)) {
+        fprintf(stderr, "list_sets: %s cannot be written\n", name);
+        exit(2);
+    }
+    free(plane);
+    free(scratch);
+    return refused;
+}
+
+/* Paints the set with the number that a word gives. */
+static uint8_t paint_one(const uint8_t *stream, size_t length, pgs_set *sets, uint8_t *scratch, const char *number,
+                         const char *name) {
+    uint64_t count, wanted = strtoull(number, NULL, 10);
+    uint8_t refused = pgs_parse_display_sets(stream, length, sets, length / SHORTEST_SET, &count);
+
+    if (refused) return refused;
+    if (wanted >= count) return PGS_NO_SUCH_SET;
+    return paint(stream + sets[wanted][PGS_SET_PLACE], (size_t)(sets[wanted][PGS_SET_END] - sets[wanted][PGS_SET_PLACE]),
+                 scratch, name);
+}
+
 int main(int count, char **words) {
     size_t length;
     uint8_t *stream, *scratch, refused;
     pgs_set *sets;
 
-    if (count != 2) {
-        fprintf(stderr, "usage: list_sets FILE\n");
+    if (count != 2 && count != 4) {
+        fprintf(stderr, "usage: list_sets FILE [SET PLANE]\n");
         return 2;
     }
     stream = read_file(words[1], &length);
@@ -106,7 +165,8 @@ int main(int count, char **words) {
         fprintf(stderr, "list_sets: %s cannot be read\n", words[1]);
         return 2;
     }
-    refused = list(stream, length, sets, scratch);
+    refused = count == 2 ? list(stream, length, sets, scratch)
+                         : paint_one(stream, length, sets, scratch, words[2], words[3]);
     if (refused) fprintf(stderr, "list_sets: refused: %u\n", refused);
     free(sets);
     free(scratch);

@@ -69,6 +69,16 @@ extern "C" {
         objects_length: usize,
         count: *mut u64,
     ) -> u8;
+    pub fn pgs_render(
+        stream: *const u8,
+        stream_length: usize,
+        set: u64,
+        scratch: *mut u8,
+        scratch_length: usize,
+        plane: *mut u8,
+        plane_length: usize,
+        shown: *mut Shown,
+    ) -> u8;
     pub fn pgs_cards(
         stream: *const u8,
         stream_length: usize,

@@ -107,6 +107,21 @@ pub fn apply_palette(entries: &[Entry], palette_id: u8, named: u8, table: &mut [
     accepted(unsafe { c::pgs_apply_palette(list, count, palette_id, named, out, room) })
 }
 
+/// Paints one set, counted from 0: R, G, B and alpha of each pixel, row by row. The scratch gets the joined data of the
+/// objects and their bitmaps; refused by one of 24 to 33, the call has written the joined data there.
+pub fn render(
+    stream: &[u8],
+    set: u64,
+    scratch: &mut [u8],
+    plane: &mut [u8],
+    shown: &mut Shown,
+) -> Result<()> {
+    let (from, length) = (stream.as_ptr(), stream.len());
+    let (bytes, size) = (scratch.as_mut_ptr(), scratch.len());
+    let (pixels, room) = (plane.as_mut_ptr(), plane.len());
+    accepted(unsafe { c::pgs_render(from, length, set, bytes, size, pixels, room, shown) })
+}
+
 /// A line of text for each set of a stream.
 pub fn cards(stream: &[u8], out: &mut [u8]) -> Result<usize> {
     let (lines, room) = (out.as_mut_ptr(), out.len());

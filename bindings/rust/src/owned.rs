@@ -134,6 +134,65 @@ impl PaletteTable {
     }
 }
 
+/// A painted set.
+#[derive(Clone, Copy, Debug, PartialEq, Eq)]
+pub struct Plane<'a> {
+    pub width: usize,
+    pub height: usize,
+    pub pts: u32,
+    /// R, G, B and alpha of each pixel, row by row. Alpha is not multiplied into the colour.
+    pub pixels: &'a [u8],
+}
+
+/// Paints one set after another in the same memory, which grows as it must.
+#[derive(Clone, Debug)]
+pub struct Painter {
+    limit: usize,
+    scratch: Vec<u8>,
+    plane: Vec<u8>,
+}
+
+impl Painter {
+    /// A painter that takes at most `limit` bytes; a set that takes more is refused as
+    /// [`Refusal::BufferTooSmall`]. A plane of 1920 by 1080 takes 8,294,400 bytes, and its bitmaps a byte a pixel.
+    pub fn new(limit: usize) -> Painter {
+        Painter { limit, scratch: Vec::new(), plane: Vec::new() }
+    }
+
+    /// Paints one set, counted from 0. To paint many, hand over [`DisplaySet::bytes`] of each as a stream whose set 0
+    /// it is: then the rest of the stream is not read again.
+    pub fn paint(&mut self, stream: &[u8], set: u64) -> Result<Plane<'_>> {
+        let mut shown = Shown::default();
+        let mut answer = lent::render(stream, set, &mut self.scratch, &mut self.plane, &mut shown);
+        if answer == Err(Refusal::BufferTooSmall) {
+            self.grow(stream, set)?;
+            answer = lent::render(stream, set, &mut self.scratch, &mut self.plane, &mut shown);
+        }
+        answer?;
+        let (width, height) = (shown.width as usize, shown.height as usize);
+        Ok(Plane { width, height, pts: shown.pts as u32, pixels: &self.plane[..4 * width * height] })
+    }
+
+    /// Takes the memory that a set needs.
+    fn grow(&mut self, stream: &[u8], set: u64) -> Result<()> {
+        let sets = parse_display_sets(stream)?;
+        let record = sets.get(set as usize).ok_or(Refusal::NoSuchSet)?;
+        let bytes = record.bytes(stream).expect("a part of the stream");
+        let first = &parse_segments(bytes)?[0];
+        let (pcs, _) = parse_pcs(first.body(bytes).expect("a part of the stream"))?;
+        let objects = reassemble_objects(bytes, 0)?;
+        let bitmaps: u64 = objects.list.iter().map(|object| object.width * object.height).sum();
+        let scratch = objects.scratch.len() as u64 + bitmaps;
+        let plane = 4 * u64::from(pcs.width) * u64::from(pcs.height);
+        if scratch + plane > self.limit as u64 {
+            return Err(Refusal::BufferTooSmall);
+        }
+        self.scratch.resize(self.scratch.len().max(scratch as usize), 0);
+        self.plane.resize(self.plane.len().max(plane as usize), 0);
+        Ok(())
+    }
+}
+
 /// A line of text for each set of a stream.
 pub fn cards(stream: &[u8]) -> Result<String> {
     let lines = filled(stream.len(), |out| lent::cards(stream, out))?;

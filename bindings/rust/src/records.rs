@@ -156,6 +156,11 @@ impl Object {
     }
 }
 
+record! {
+    /// What a painted plane shows.
+    Shown of u64 { width, height, pts, }
+}
+
 fn part(bytes: &[u8], from: usize, length: u64) -> Option<&[u8]> {
     bytes.get(from..)?.get(..usize::try_from(length).ok()?)
 }

@@ -157,6 +157,23 @@ fn pixels_and_colors() {
 }
 
 #[test]
+fn planes() {
+    let mut painter = pgs::Painter::new(100);
+    let stream = stream();
+    let mut crops = stream.clone();
+    crops[13 + 11 + 5] = 1; // object 7 at 1, 0; object 8 stays off the plane
+    let plane = painter.paint(&crops, 0).unwrap();
+    assert_eq!((plane.width, plane.height, plane.pts), (4, 1, 90_000));
+    let red = [0xFF, 0x18, 0, 0xFF];
+    assert_eq!(plane.pixels, [[0; 4], red, red, [0; 4]].concat());
+    assert_eq!(painter.paint(&stream, 1), Err(Refusal::NoSuchSet));
+    assert_eq!(painter.paint(&stream, 0).unwrap().pixels, [0; 16]);
+    assert_eq!(pgs::Painter::new(20).paint(&stream, 0), Err(Refusal::BufferTooSmall));
+    crops[13 + 11 + 1] = 9;
+    assert_eq!(painter.paint(&crops, 0), Err(Refusal::ObjectNotInSet));
+}
+
+#[test]
 fn cards() {
     let stream = stream();
     assert_eq!(pgs::cards(&stream).unwrap(), "0000000000015F90000180050200040001\n");
