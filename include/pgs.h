@@ -1,6 +1,6 @@
 /*
  * PGS (Blu-ray bitmap subtitle) streams: the C interface of the proved library, for C and C++.
- * Link target/staticlib/libpgs_c.a, which `rt staticlib pgs_c` writes (x86-64 Linux).
+ * Link dist/libpgs_c.a, which `make lib` writes (x86-64 Linux).
  *
  * Every function answers PGS_ACCEPTED (0), or the number of the refusal; docs/REFUSALS.md explains each. Only
  * pgs_ycbcr709_to_rgb, which refuses nothing, answers a colour. A refused call changes nothing: the records, the

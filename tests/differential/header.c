@@ -186,6 +186,36 @@ static void cards(void) {
     expect("the byte after the line", out[PGS_CARD_LINE], 9);
 }
 
+/* A plane of 2 by 1 that shows object 7, whose pixels are index 1; it came in two fragments. */
+static const uint8_t PAINTED[] = {
+    'P', 'G', 0, 1, 0x5F, 0x90, 0, 0, 0, 0, 0x16, 0, 19,
+    0, 2, 0, 1, 0x10, 0, 1, 0x80, 0, 5, 1, 0, 7, 0, 0, 0, 1, 0, 0,
+    'P', 'G', 0, 0, 0, 0, 0, 0, 0, 0, 0x14, 0, 7, 5, 0, 1, 0x51, 0xF0, 0x5A, 0xFF,
+    'P', 'G', 0, 0, 0, 0, 0, 0, 0, 0, 0x15, 0, 12, 0, 7, 0, 0x80, 0, 0, 6, 0, 2, 0, 1, 1,
+    'P', 'G', 0, 0, 0, 0, 0, 0, 0, 0, 0x15, 0, 8, 0, 7, 0, 0x40, 0, 0, 0, 1,
+    'P', 'G', 0, 0, 0, 0, 0, 0, 0, 0, 0x80, 0, 0,
+};
+
+static void painting(void) {
+    static const uint8_t wanted[9] = {0, 0, 0, 0, 0xFF, 0x18, 0x00, 0xFF, 9};
+    uint8_t plane[9] = {9, 9, 9, 9, 9, 9, 9, 9, 9}, scratch[5] = {9, 9, 9, 9, 9};
+    pgs_shown shown = {7, 7, 7};
+    size_t i;
+
+    expect("a scratch too short", pgs_render(PAINTED, sizeof PAINTED, 0, scratch, 3, plane, 9, &shown), PGS_BUFFER_TOO_SMALL);
+    expect("no such set", pgs_render(PAINTED, sizeof PAINTED, 1, scratch, 5, plane, 9, &shown), PGS_NO_SUCH_SET);
+    expect("the width after a refusal", shown[PGS_SHOWN_WIDTH], 7);
+    expect("the plane", pgs_render(PAINTED, sizeof PAINTED, 0, scratch, 5, plane, 9, &shown), PGS_ACCEPTED);
+    expect("width", shown[PGS_SHOWN_WIDTH], 2);
+    expect("height", shown[PGS_SHOWN_HEIGHT], 1);
+    expect("PTS", shown[PGS_SHOWN_PTS], 90000);
+    for (i = 0; i < sizeof wanted; i++) {
+        expect("a byte of the plane", plane[i], wanted[i]);
+    }
+    expect("the scratch", scratch[3], 1);
+    expect("the byte after the scratch", scratch[4], 9);
+}
+
 int main(void) {
     pgs_segment segments[5];
     pgs_pcs pcs;
@@ -228,6 +258,7 @@ int main(void) {
     more_writing();
     sets_and_objects();
     cards();
+    painting();
     pixels_and_colors(body(segments[3]), ods, pds, (const pgs_entry *)&entry);
 
     if (faults == 0) {

@@ -1,7 +1,7 @@
 //! The library and the published Rust, timed on the same inputs in one run: the best time of each.
 
 use crate::bitmap::codes::{encoded, noisy, text_like};
-use crate::generate::{segment, END, ODS, PCS, PDS, WDS};
+use crate::captions::{captions, HOUR};
 use crate::library::{plain, ObjectRecord, SegmentRecord, SetRecord};
 use crate::prng::Prng;
 use published::pgs;
@@ -10,115 +10,113 @@ use std::time::{Duration, Instant};
 
 /// How often each side runs, in turns.
 const ROUNDS: usize = 15;
-/// The sets of an hour: one every three seconds.
-const HOUR: usize = 1_200;
-/// The letters that are drawn, each of LETTER pixels.
-const ALPHABET: usize = 80;
-const LETTER: (usize, usize) = (48, 110);
 const SCREEN: (usize, usize) = (1920, 1080);
+/// A line of the screen where a line of letters stands.
+const LETTERS: usize = 495;
+
+/// The smallest input whose growth is measured has a LARGEST-th of an hour's sets, or of a screen's lines.
+const LARGEST: usize = 64;
+const STEPS: [usize; 4] = [1, 4, 16, LARGEST];
 
 pub fn run(seed: u64) {
     let mut p = Prng::named(seed, "bench");
-    let letters: Vec<Vec<u8>> =
-        (0..ALPHABET).map(|_| drawn(text_like(&mut p, LETTER.0, LETTER.1), LETTER)).collect();
-    let hour = captions(&mut p, &letters, HOUR);
-    println!("seed {seed}, best of {ROUNDS}; an hour of captions: {HOUR} sets, {} bytes", hour.len());
+    let hour = captions(&mut p, HOUR);
+    let text = text_like(&mut p, SCREEN.0, SCREEN.1);
+    let noise = noisy(&mut p, SCREEN.0, SCREEN.1);
+    println!("seed {seed}, best of {ROUNDS}; an hour of captions: {HOUR} sets, {} bytes\n", hour.len());
     println!("{:32} {:>10} {:>10} {:>6}", "", "library", "Rust", "ratio");
-    reading(&hour);
-    grouping(&hour);
-    objects("grouping and objects", &hour);
-    writing(&hour);
-    bitmap("bitmap 1920 by 1080, text-like", text_like(&mut p, SCREEN.0, SCREEN.1));
-    bitmap("bitmap 1920 by 1080, noisy", noisy(&mut p, SCREEN.0, SCREEN.1));
-    for times in [4, 16] {
-        objects(&format!("grouping and objects, {times} hours"), &hour.repeat(times));
-    }
-}
+    row("reading", reading(&hour));
+    row("grouping", grouping(&hour));
+    row("grouping and objects", objects(&hour));
+    row("reading and writing", writing(&hour));
+    row("bitmap 1920 by 1080, text-like", bitmap(&text));
+    row("bitmap 1920 by 1080, noisy", bitmap(&noise));
+    row("painting a set, 1920 by 1080", painting(&sentence(&mut p)));
+    row("browsing: an hour, 100 planes", browsing(&hour, 100));
 
-fn drawn(pixels: Vec<u8>, (width, _): (usize, usize)) -> Vec<u8> {
-    encoded(&pixels, width)
-}
-
-/// Sets of letters placed one by one.
-fn captions(p: &mut Prng, letters: &[Vec<u8>], sets: usize) -> Vec<u8> {
-    let mut stream = Vec::new();
-    for set in 0..sets {
-        caption(p, letters, set as u32 * 270_000, &mut stream);
-    }
-    stream
-}
-
-/// One set: up to 60 placements of up to 30 letters; every eighth letter comes in two fragments.
-fn caption(p: &mut Prng, letters: &[Vec<u8>], pts: u32, stream: &mut Vec<u8>) {
-    let (objects, placements) = (p.between(10, 30) as u16, p.between(20, 60) as u16);
-    let mut pcs = vec![7, 0x80, 4, 0x38, 0x10, 0, 1, 0x80, 0, 0, placements as u8];
-    for i in 0..placements {
-        let [id, x] = [i % objects, 40 + 30 * i].map(u16::to_be_bytes);
-        pcs.extend([id[0], id[1], 0, 0, x[0], x[1], 3, 0]);
-    }
-    stream.extend(segment(PCS, pts, 0, &pcs));
-    stream.extend(segment(WDS, pts, 0, &[1, 0, 0, 0, 0, 0, 7, 0x80, 4, 0x38]));
-    let entries: Vec<u8> = (0..16).flat_map(|id| [id, 16 + 14 * id, 128, 128, 255]).collect();
-    stream.extend(segment(PDS, pts, 0, &[&[0, 0], &entries[..]].concat()));
-    for id in 0..objects {
-        letter(id, &letters[p.below(letters.len())], pts, stream);
-    }
-    stream.extend(segment(END, pts, 0, &[]));
-}
-
-fn letter(id: u16, data: &[u8], pts: u32, stream: &mut Vec<u8>) {
-    let [high, low] = id.to_be_bytes();
-    let declared = (data.len() as u32 + 4).to_be_bytes();
-    let first = |flag: u8, data: &[u8]| {
-        let head =
-            [high, low, 0, flag, declared[1], declared[2], declared[3], 0, LETTER.0 as u8, 0, LETTER.1 as u8];
-        segment(ODS, pts, 0, &[&head[..], data].concat())
+    println!("\nmilliseconds of the library, as the input grows; what {LARGEST} times the input takes\n");
+    let heads = STEPS.map(|step| format!("{step:>8} x"));
+    println!("{:32} {} {:>10} {:>10}", "", heads.join(" "), "library", "Rust");
+    let minute = captions(&mut p, HOUR / LARGEST);
+    growth("reading", |times| reading(&minute.repeat(times)));
+    growth("grouping", |times| grouping(&minute.repeat(times)));
+    growth("grouping and objects", |times| objects(&minute.repeat(times)));
+    growth("reading and writing", |times| writing(&minute.repeat(times)));
+    let lines = |all: &[u8], times: usize| {
+        let some = &all[SCREEN.0 * LETTERS..][..SCREEN.0 * (SCREEN.1 / LARGEST)];
+        some.repeat(times)
     };
-    if id % 8 == 7 {
-        let (front, rest) = data.split_at(data.len() / 2);
-        stream.extend(first(0x80, front));
-        stream.extend(segment(ODS, pts, 0, &[&[high, low, 0, 0x40, 0, 0, 0][..], rest].concat()));
-    } else {
-        stream.extend(first(0xC0, data));
+    growth("bitmap, text-like", |times| bitmap(&lines(&text, times)));
+    growth("bitmap, noisy", |times| bitmap(&lines(&noise, times)));
+}
+
+/// A set of some 60 letters and accents.
+fn sentence(p: &mut Prng) -> Vec<u8> {
+    loop {
+        let set = captions(p, 1);
+        let placements = set[13 + 10];
+        if placements >= 58 {
+            return set;
+        }
     }
 }
 
-/// Times both sides in turns, and prints the best of each.
-fn row(name: &str, mut ours: impl FnMut(), mut theirs: impl FnMut()) {
+/// The best time of each side.
+struct Times {
+    library: Duration,
+    rust: Duration,
+}
+
+/// Times both sides in turns.
+fn timed(mut ours: impl FnMut(), mut theirs: impl FnMut()) -> Times {
     let timed = |side: &mut dyn FnMut()| {
         let start = Instant::now();
         side();
         start.elapsed()
     };
-    let (mut library, mut rust) = (Duration::MAX, Duration::MAX);
+    let mut best = Times { library: Duration::MAX, rust: Duration::MAX };
     for _ in 0..ROUNDS {
-        library = library.min(timed(&mut ours));
-        rust = rust.min(timed(&mut theirs));
+        best.library = best.library.min(timed(&mut ours));
+        best.rust = best.rust.min(timed(&mut theirs));
     }
+    best
+}
+
+fn row(name: &str, Times { library, rust }: Times) {
     let ratio = library.as_secs_f64() / rust.as_secs_f64();
     println!("{name:32} {:>7.3} ms {:>7.3} ms {ratio:>6.2}", millis(library), millis(rust));
+}
+
+/// The times for 1, 4, 16 and 64 times the input.
+fn growth(name: &str, measure: impl Fn(usize) -> Times) {
+    let times = STEPS.map(measure);
+    let each = times.each_ref().map(|times| format!("{:>10.4}", millis(times.library)));
+    let [first, .., last] = &times;
+    let grown = |side: fn(&Times) -> Duration| side(last).as_secs_f64() / side(first).as_secs_f64();
+    let (library, rust) = (grown(|times| times.library), grown(|times| times.rust));
+    println!("{name:32} {} {library:>8.1} x {rust:>8.1} x", each.join(" "));
 }
 
 fn millis(time: Duration) -> f64 {
     time.as_secs_f64() * 1e3
 }
 
-fn reading(stream: &[u8]) {
+fn reading(stream: &[u8]) -> Times {
     let segments = pgs::parse_segments(stream).expect("good captions").len();
     let mut list: Vec<SegmentRecord> = vec![[0; 5]; segments];
     let ours = || assert!(plain::parse_segments(black_box(stream), &mut list, &mut [0]) == 0);
-    row("reading", ours, || drop(black_box(pgs::parse_segments(black_box(stream)))));
+    timed(ours, || drop(black_box(pgs::parse_segments(black_box(stream)))))
 }
 
-fn grouping(stream: &[u8]) {
-    let mut list: Vec<SetRecord> = vec![[0; 3]; stream.len() / 26];
+fn grouping(stream: &[u8]) -> Times {
+    let mut list: Vec<SetRecord> = vec![[0; 3]; stream.len() / 37];
     let ours = || assert!(plain::parse_display_sets(black_box(stream), &mut list, &mut [0]) == 0);
-    row("grouping", ours, || drop(black_box(pgs::parse_display_sets(black_box(stream)))));
+    timed(ours, || drop(black_box(pgs::parse_display_sets(black_box(stream)))))
 }
 
 /// The sets of a stream, then the objects of each; the library is handed the bytes of each set alone.
-fn objects(name: &str, stream: &[u8]) {
-    let mut sets: Vec<SetRecord> = vec![[0; 3]; stream.len() / 26];
+fn objects(stream: &[u8]) -> Times {
+    let mut sets: Vec<SetRecord> = vec![[0; 3]; stream.len() / 37];
     let mut scratch = vec![0; 1 << 20];
     let mut list: Vec<ObjectRecord> = vec![[0; 7]; 64];
     let ours = || {
@@ -134,11 +132,11 @@ fn objects(name: &str, stream: &[u8]) {
             drop(black_box(set.reassemble_objects().expect("good objects")));
         }
     };
-    row(name, ours, theirs);
+    timed(ours, theirs)
 }
 
 /// All segments read and written again, into one buffer.
-fn writing(stream: &[u8]) {
+fn writing(stream: &[u8]) -> Times {
     let mut out = vec![0; stream.len()];
     let ours = || assert!(plain::write_segments(black_box(stream), &mut out, &mut [0], &mut [0]) == 0);
     let theirs = || {
@@ -148,13 +146,62 @@ fn writing(stream: &[u8]) {
         }
         drop(black_box(written));
     };
-    row("reading and writing", ours, theirs);
+    timed(ours, theirs)
 }
 
-fn bitmap(name: &str, pixels: Vec<u8>) {
-    let (width, height) = (SCREEN.0 as u16, SCREEN.1 as u16);
-    let data = drawn(pixels, SCREEN);
-    let mut out = vec![0; SCREEN.0 * SCREEN.1];
+/// The pixels of whole lines of the screen, coded and decoded.
+fn bitmap(pixels: &[u8]) -> Times {
+    let (width, height) = (SCREEN.0 as u16, (pixels.len() / SCREEN.0) as u16);
+    let data = encoded(pixels, SCREEN.0);
+    let mut out = vec![0; pixels.len()];
     let ours = || assert!(plain::decode_rle(black_box(&data), width, height, &mut out) == 0);
-    row(name, ours, || drop(black_box(pgs::decode_rle(black_box(&data), width, height))));
+    timed(ours, || drop(black_box(pgs::decode_rle(black_box(&data), width, height))))
+}
+
+/// The set 0 of a stream, painted.
+fn painting(stream: &[u8]) -> Times {
+    let sets = pgs::parse_display_sets(stream).expect("good captions");
+    let mut room = Room::new();
+    let ours = || room.paint(black_box(stream));
+    timed(ours, || drop(black_box(black_box(&sets[0]).render().expect("a set that can be painted"))))
+}
+
+/// The sets of a stream, then the planes of some of them, from the first to the last; the library is handed the bytes
+/// of each set alone.
+fn browsing(stream: &[u8], planes: usize) -> Times {
+    let mut sets: Vec<SetRecord> = vec![[0; 3]; stream.len() / 37];
+    let mut room = Room::new();
+    let ours = || {
+        let mut count = [0];
+        assert!(plain::parse_display_sets(black_box(stream), &mut sets, &mut count) == 0);
+        let step = count[0] as usize / planes;
+        for [from, to, _] in sets[..count[0] as usize].iter().step_by(step).take(planes) {
+            room.paint(&stream[*from as usize..*to as usize]);
+        }
+    };
+    let theirs = || {
+        let sets = pgs::parse_display_sets(black_box(stream)).expect("good captions");
+        for set in sets.iter().step_by(sets.len() / planes).take(planes) {
+            drop(black_box(set.render().expect("a set that can be painted")));
+        }
+    };
+    timed(ours, theirs)
+}
+
+/// Memory that is lent for painting, again and again.
+struct Room {
+    scratch: Vec<u8>,
+    plane: Vec<u8>,
+}
+
+impl Room {
+    fn new() -> Self {
+        Room { scratch: vec![0; 1 << 20], plane: vec![0; 4 * SCREEN.0 * SCREEN.1] }
+    }
+
+    fn paint(&mut self, stream: &[u8]) {
+        let mut shown = [0; 3];
+        assert!(plain::render(stream, 0, &mut self.scratch, &mut self.plane, &mut shown) == 0);
+        black_box(&self.plane);
+    }
 }

@@ -16,6 +16,7 @@ pub struct Inputs {
     pub colors: u64,
     pub palettes: u64,
     pub segments: u64,
+    pub planes: u64,
 }
 
 impl Inputs {
@@ -28,6 +29,7 @@ impl Inputs {
             colors: self.colors - earlier.colors,
             palettes: self.palettes - earlier.palettes,
             segments: self.segments - earlier.segments,
+            planes: self.planes - earlier.planes,
         }
     }
 }
@@ -42,6 +44,7 @@ impl fmt::Display for Inputs {
             (self.colors, "colours"),
             (self.palettes, "lists of palettes"),
             (self.segments, "segments to write"),
+            (self.planes, "planes"),
         ];
         let some = sorts.iter().filter(|(count, _)| *count > 0);
         let each: Vec<String> = some.map(|(count, sort)| format!("{count} {sort}")).collect();

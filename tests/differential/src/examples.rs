@@ -2,7 +2,7 @@
 
 use crate::compare::Tally;
 use crate::run::unhex;
-use crate::{bitmap, color, segments, sets, writer};
+use crate::{bitmap, color, paint, segments, sets, writer};
 
 pub type Outcome = Result<(), String>;
 
@@ -11,8 +11,14 @@ pub type Example = (u8, &'static str, fn(&mut Tally) -> Outcome);
 
 /// Runs the examples. The first that does not hold is the answer.
 pub fn run(tally: &mut Tally) -> Outcome {
-    let layers: [&[Example]; 5] =
-        [&segments::EXAMPLES, &writer::EXAMPLES, &sets::EXAMPLES, &bitmap::EXAMPLES, &color::EXAMPLES];
+    let layers: [&[Example]; 6] = [
+        &segments::EXAMPLES,
+        &writer::EXAMPLES,
+        &sets::EXAMPLES,
+        &bitmap::EXAMPLES,
+        &color::EXAMPLES,
+        &paint::EXAMPLES,
+    ];
     for examples in layers {
         let before = tally.calls;
         for (number, what, example) in examples {

@@ -22,6 +22,8 @@ pub type OdsCells = [u32; 7];
 pub type SetRecord = [u64; 3];
 /// Id, version, width, height, holder, place, length.
 pub type ObjectRecord = [u64; 7];
+/// Width, height, PTS.
+pub type ShownRecord = [u64; 3];
 /// A byte of a buffer.
 pub type Byte = [u8; 1];
 /// A number of records.
@@ -157,6 +159,16 @@ mod c {
             objects: *mut ObjectRecord,
             objects_len: usize,
             count: *mut Count,
+        ) -> u8;
+        pub fn pgs_render(
+            stream: *const u8,
+            stream_len: usize,
+            set: u64,
+            scratch: *mut u8,
+            scratch_len: usize,
+            plane: *mut u8,
+            plane_len: usize,
+            shown: *mut ShownRecord,
         ) -> u8;
         pub fn pgs_cards(
             stream: *const u8,
@@ -348,6 +360,17 @@ pub fn reassemble_objects(
     }
 }
 
+pub fn render(
+    stream: &Input,
+    set: u64,
+    (scratch, scratch_len): (*mut u8, usize),
+    (plane, plane_len): (*mut u8, usize),
+    shown: &mut Lent<ShownRecord>,
+) -> u8 {
+    let (from, len) = (stream.pointer(), stream.len());
+    unsafe { c::pgs_render(from, len, set, scratch, scratch_len, plane, plane_len, shown.pointer()) }
+}
+
 pub fn cards(stream: &Input, _: &mut Lent<Nothing>, out: &mut Lent<Byte>, written: &mut Lent<Count>) -> u8 {
     let len = out.len();
     unsafe { c::pgs_cards(stream.pointer(), stream.len(), out.pointer(), len, written.pointer()) }
@@ -377,6 +400,18 @@ pub mod plain {
         let (from, len) = (stream.as_ptr(), stream.len());
         let (room, size) = (scratch.as_mut_ptr(), scratch.len());
         unsafe { c::pgs_reassemble_objects(from, len, set, room, size, list.as_mut_ptr(), list.len(), count) }
+    }
+
+    pub fn render(
+        stream: &[u8],
+        set: u64,
+        scratch: &mut [u8],
+        plane: &mut [u8],
+        shown: &mut ShownRecord,
+    ) -> u8 {
+        let (from, len) = (stream.as_ptr(), stream.len());
+        let (room, size) = (scratch.as_mut_ptr(), scratch.len());
+        unsafe { c::pgs_render(from, len, set, room, size, plane.as_mut_ptr(), plane.len(), shown) }
     }
 
     pub fn write_segments(stream: &[u8], out: &mut [u8], accepted: &mut Count, written: &mut Count) -> u8 {

@@ -2,14 +2,19 @@
 
 mod bench;
 mod bitmap;
+mod captions;
 mod color;
+mod commands;
 mod compare;
 mod examples;
 mod generate;
 mod lent;
 mod library;
 mod numbers;
+mod paint;
 mod prng;
+mod record;
+mod regressions;
 mod run;
 mod samples;
 mod segments;
@@ -19,20 +24,27 @@ mod shrink;
 mod vast;
 mod writer;
 
+use commands::check_of;
 use compare::Tally;
+use record::Recorder;
 use run::{unhex, Layer, Run};
 use std::fs;
+use std::path::Path;
 use std::process::ExitCode;
 use std::time::Instant;
 
 const USAGE: &str = "\
 differential                                    the examples, then the comparison
 differential examples                           the examples alone
-differential compare [--seed N] [--streams N] [--layer NAME]
-                                                the comparison alone; NAME is segments, writer, bitmap, color or sets
+differential compare [--seed N] [--streams N] [--scale N] [--layer NAME]
+                                                the comparison alone, with N random streams, or N times as many as
+                                                usual; NAME is segments, writer, bitmap, color, sets or paint
 differential bench [--seed N]                   times of both sides
+differential record FOLDER                      answers of the Rust, into the files stdin and stdout of pgs_replay
 differential stream HEX                         one stream
 differential sets HEX                           one stream: its sets and their objects
+differential paint HEX                          one stream: the planes of its sets
+differential browse HEX                         one stream: its sets, and the objects of each from its bytes alone
 differential writes HEX                         one stream: its segments written again, one by one and as a list
 differential fields HEX                         fields to write: the writer (14, 15, 16, 17, 80, or 00 for unknown
                                                 kinds), PTS, DTS, the byte of an unknown kind, the cells of the
@@ -45,7 +57,8 @@ differential palettes HEX                       palettes: the named id, then for
 HEX is hexadecimal digits, or @ and the name of a file that has them";
 
 /// The layers in the order in which they are compared.
-const LAYERS: [Layer; 5] = [segments::LAYER, writer::LAYER, bitmap::LAYER, color::LAYER, sets::LAYER];
+const LAYERS: [Layer; 6] =
+    [segments::LAYER, writer::LAYER, bitmap::LAYER, color::LAYER, sets::LAYER, paint::LAYER];
 
 fn main() -> ExitCode {
     let words: Vec<String> = std::env::args().skip(1).collect();
@@ -55,21 +68,9 @@ fn main() -> ExitCode {
         ["examples"] => run_examples(),
         ["compare", ref rest @ ..] => options(rest).and_then(|options| run_comparison(&options)),
         ["bench", ref rest @ ..] => options(rest).map(|options| bench::run(options.seed)),
-        ["stream", ref hex @ ..] => one(hex, |stream, tally| {
-            segments::show(stream);
-            segments::check_stream(stream, tally)
-        }),
-        ["body", kind @ ("14" | "15" | "16" | "17"), ref hex @ ..] => {
-            let kind = u8::from_str_radix(kind, 16).expect("two digits");
-            one(hex, |body, tally| segments::check_body(kind, body, tally))
-        }
-        ["writes", ref hex @ ..] => one(hex, writer::check),
-        ["fields", ref hex @ ..] => one(hex, writer::check_input),
-        ["sets", ref hex @ ..] => one(hex, sets::check),
-        ["bitmap", ref hex @ ..] => one(hex, bitmap::check),
-        ["color", ref hex @ ..] => one(hex, color::check_color),
-        ["palettes", ref hex @ ..] => one(hex, color::check_palettes),
-        _ => Err(USAGE.to_string()),
+        ["record", folder] => run_recording(Path::new(folder)),
+        ["body", kind, ref hex @ ..] => one(&format!("body {kind}"), hex),
+        [command, ref hex @ ..] => one(command, hex),
     };
     match outcome {
         Ok(()) => ExitCode::SUCCESS,
@@ -106,6 +107,10 @@ fn options(words: &[&str]) -> Result<Options, String> {
     for pair in words.chunks(2) {
         match pair {
             ["--seed", n] => options.seed = n.parse().map_err(|_| USAGE)?,
+            ["--scale", n] => {
+                let times: usize = n.parse().map_err(|_| USAGE)?;
+                options.streams = Options::default().streams.checked_mul(times).ok_or(USAGE)?;
+            }
             ["--streams", n] => options.streams = n.parse().map_err(|_| USAGE)?,
             ["--layer", name] if LAYERS.iter().any(|layer| layer.name == *name) => {
                 options.layer = Some(name.to_string());
@@ -117,7 +122,8 @@ fn options(words: &[&str]) -> Result<Options, String> {
 }
 
 /// Compares one input from the command line.
-fn one(hex: &[&str], check: impl Fn(&[u8], &mut Tally) -> Result<(), String>) -> Result<(), String> {
+fn one(command: &str, hex: &[&str]) -> Result<(), String> {
+    let check = check_of(command).ok_or(USAGE)?;
     let text = match hex {
         [name] if name.starts_with('@') => {
             fs::read_to_string(&name[1..]).map_err(|e| format!("{name}: {e}"))?
@@ -125,6 +131,9 @@ fn one(hex: &[&str], check: impl Fn(&[u8], &mut Tally) -> Result<(), String>) ->
         _ => hex.concat(),
     };
     let bytes = unhex(&text).ok_or(USAGE)?;
+    if command == "stream" {
+        segments::show(&bytes);
+    }
     let mut tally = Tally::default();
     check(&bytes, &mut tally)?;
     print!("{}", tally.answers());
@@ -132,9 +141,25 @@ fn one(hex: &[&str], check: impl Fn(&[u8], &mut Tally) -> Result<(), String>) ->
     Ok(())
 }
 
+/// The number of random streams that some are recorded of.
+const RECORDED_STREAMS: usize = 20_000;
+
+fn run_recording(folder: &Path) -> Result<(), String> {
+    let seed = Options::default().seed;
+    let mut recorder = Run::new(seed, RECORDED_STREAMS);
+    recorder.recorder = Some(Recorder::new(seed));
+    LAYERS.iter().for_each(|layer| recorder.record_layer(layer));
+    let recorder = recorder.recorder.expect("the recorder of this run");
+    let calls = recorder.write(folder).map_err(|e| format!("{}: {e}", folder.display()))?;
+    println!("{calls} answers are in {}", folder.display());
+    Ok(())
+}
+
 fn run_comparison(options: &Options) -> Result<(), String> {
     let began = Instant::now();
     let mut run = Run::new(options.seed, options.streams);
+    let regressions = regressions::run(&mut run.tally)?;
+    println!("regressions: {regressions}");
     let chosen = |layer: &&Layer| options.layer.as_ref().is_none_or(|name| name == layer.name);
     for layer in LAYERS.iter().filter(chosen) {
         run.compare_layer(layer);

@@ -1,6 +1,8 @@
 //! A run: its seed, what it has compared, and what it does at a mismatch.
 
 use crate::compare::Tally;
+use crate::record::Recorder;
+use crate::regressions;
 use crate::shrink::{smallest, Form};
 use std::io::{self, Write};
 use std::{env, fs, process};
@@ -10,6 +12,8 @@ pub struct Run {
     /// How many random streams to make; other random inputs go by it.
     pub streams: usize,
     pub tally: Tally,
+    /// Takes the inputs instead: then nothing is compared.
+    pub recorder: Option<Recorder>,
 }
 
 /// What is compared together: a crate's functions.
@@ -42,7 +46,7 @@ pub struct Group {
 
 impl Run {
     pub fn new(seed: u64, streams: usize) -> Self {
-        Run { seed, streams, tally: Tally::default() }
+        Run { seed, streams, tally: Tally::default(), recorder: None }
     }
 
     /// Compares one input. A mismatch ends the run: it prints the smallest input found that shows one.
@@ -54,6 +58,9 @@ impl Run {
         input: &[u8],
         check: impl Fn(&[u8], &mut Tally) -> Result<(), String>,
     ) {
+        if let Some(recorder) = &mut self.recorder {
+            return recorder.offer(command, input);
+        }
         let Err(found) = check(input, &mut self.tally) else { return };
         let mut unused = Tally::default();
         let small = smallest(form, input, |smaller| check(smaller, &mut unused).is_err());
@@ -62,6 +69,10 @@ impl Run {
         println!("  found on {} bytes: {found}", input.len());
         println!("  smallest input found, {} bytes: {shown}", small.len());
         println!("  to compare it again: tests/differential/run {command} {}", shown_input(&small));
+        match regressions::keep(command, &small) {
+            Ok(name) => println!("  kept in tests/differential/regressions/{name}"),
+            Err(why) => println!("  not kept: {why}"),
+        }
         process::exit(1);
     }
 
@@ -76,6 +87,14 @@ impl Run {
         let seed = self.seed;
         let mut take = |stream: &[u8]| self.compare(Form::Stream, command, stream, check);
         make(&mut Sink { seed, streams, take: &mut take });
+    }
+
+    /// Hands the inputs of a layer to the recorder.
+    pub fn record_layer(&mut self, layer: &Layer) {
+        for group in (layer.groups)() {
+            (group.inputs)(self);
+            self.recorder.iter_mut().for_each(Recorder::next_group);
+        }
     }
 
     /// Compares the groups of a layer and prints how many inputs each had.

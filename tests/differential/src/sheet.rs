@@ -7,7 +7,7 @@ use crate::bitmap;
 use crate::compare::Tally;
 use crate::numbers::number_of;
 use crate::run::unhex;
-use crate::{segments, sets};
+use crate::{paint, segments, sets};
 use published::pgs;
 
 const SHEET: &str = include_str!("../../../docs/REFUSALS.md");
@@ -46,6 +46,7 @@ fn example(number: u8, line: &str, tally: &mut Tally) -> Result<(), String> {
         [] => {
             segments::check_stream(&bytes, tally)?;
             sets::check(&bytes, tally)?;
+            paint::check(&bytes, tally)?;
             paint_first(&bytes).map_err(|e| number_of(&e))
         }
         [width, height] => {

@@ -51,7 +51,7 @@ pub type Segment = (u8, Vec<EntryRecord>);
 
 /// The named id and the segments: each is its id, its number of entries in 2 bytes, and the entries.
 /// What is cut at the end is less.
-fn parsed(input: &[u8]) -> Option<(u8, Vec<Segment>)> {
+pub fn parsed(input: &[u8]) -> Option<(u8, Vec<Segment>)> {
     let (named, mut rest) = input.split_first()?;
     let mut segments = Vec::new();
     while let [id, high, low, entries @ ..] = rest {
@@ -97,6 +97,11 @@ thread_local! {
 fn published_segment((id, entries): &Segment) -> Pds {
     let entries = entries.iter().map(exchanged).collect();
     Pds { palette_id: *id, palette_version_number: 0, entries }
+}
+
+/// The Rust's table of one segment, where a composition names an id.
+pub fn table_of(segment: &Segment, named: u8) -> Vec<u8> {
+    table(&Palette::from_palettes_with_id(&[published_segment(segment)], named))
 }
 
 /// The Rust's palette as a table.

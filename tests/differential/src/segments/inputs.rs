@@ -4,6 +4,7 @@ use super::{check_body, check_stream};
 use crate::generate::*;
 use crate::prng::Prng;
 use crate::run::{Group, Run, Sink};
+use crate::sets::inputs as sets;
 use crate::shrink::Form;
 
 pub fn groups() -> Vec<Group> {
@@ -21,6 +22,7 @@ pub fn groups() -> Vec<Group> {
         group("counts and bodies at their limits", |run| streams(run, limits)),
         group("bodies longer than a segment's", long_bodies),
         group("streams of 65,535 segments and more", |run| streams(run, long_streams)),
+        group("hours of captions", |run| streams(run, sets::hours)),
         group("random bodies", random_bodies),
         group("good streams", |run| streams(run, good_streams)),
         group("damaged streams", |run| streams(run, damaged_streams)),

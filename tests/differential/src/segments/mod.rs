@@ -82,7 +82,7 @@ fn check_bodies(stream: &[u8], tally: &mut Tally) -> Result<Option<u8>, String> 
 }
 
 /// The kind and the body at the front of a stream, where the mark is right and the body is not cut.
-fn whole_body(stream: &[u8]) -> Option<(u8, &[u8])> {
+pub fn whole_body(stream: &[u8]) -> Option<(u8, &[u8])> {
     let (head, rest) = stream.split_at_checked(13)?;
     let size = u16::from_be_bytes([head[11], head[12]]) as usize;
     let body = rest.get(..size)?;

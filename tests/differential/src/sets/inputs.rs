@@ -1,6 +1,7 @@
 //! The inputs of the layer: short sequences exhaustively, the limit of 64 objects, random sets and damaged copies.
 
-use super::check;
+use super::{check, check_browsing};
+use crate::captions::{captions, HOUR};
 use crate::generate::*;
 use crate::prng::Prng;
 use crate::run::{Group, Run, Sink};
@@ -14,6 +15,7 @@ pub fn groups() -> Vec<Group> {
         group("63 to 66 objects, and one fragment more", |run| streams(run, many_objects)),
         group("objects of up to 16 MiB", |run| streams(run, large_objects)),
         group("1,000 sets", |run| streams(run, many_sets)),
+        group("hours of captions", |run| run.compare_streams(run.streams, hours, "browse", check_browsing)),
         group("good sets", |run| streams(run, good)),
         group("damaged sets", |run| streams(run, damaged_sets)),
         group("random segments", |run| streams(run, random)),
@@ -104,7 +106,7 @@ fn cuts(to: &mut Sink) {
 }
 
 /// Sets of objects with one or two fragments each, then nothing or one fragment more: new, known, or loose.
-fn many_objects(to: &mut Sink) {
+pub fn many_objects(to: &mut Sink) {
     for count in 63..=66u16 {
         for shape in 0..4 {
             let whole = |id: u16| ods(id, 1, 0xC0, 6, &id.to_be_bytes());
@@ -161,10 +163,26 @@ fn many_sets(to: &mut Sink) {
     to.stream(&stream);
 }
 
-/// A set that is accepted, its fragments mixed.
+/// An hour as it is, cut at its end, with a fault, and with a set more that is refused.
+pub fn hours(to: &mut Sink) {
+    let mut p = Prng::named(to.seed, "hours of captions");
+    let hour = captions(&mut p, HOUR);
+    to.stream(&hour);
+    to.stream(&hour[..hour.len() - 1]);
+    to.stream(&damaged(&mut p, &hour));
+    to.stream(&[&hour[..], &pcs(1), &ods(1, 0, 0x80, 4, &[]), &end()].concat());
+    let evening = captions(&mut p, HOUR / 8);
+    for _ in 0..(to.streams / 25_000).max(1) {
+        to.stream(&damaged(&mut p, &evening));
+    }
+}
+
+/// A set that is accepted, its fragments mixed. Composition and windows may have tails.
 fn set(p: &mut Prng) -> Vec<u8> {
     let count = p.pick(&[0, 0, 1, 2, 3]);
-    let mut stream = segment(PCS, p.next() as u32, p.next() as u32, &pcs_body(p, count));
+    let mut composition = pcs_body(p, count);
+    composition.extend(tail(p));
+    let mut stream = segment(PCS, p.next() as u32, p.next() as u32, &composition);
     let mut chains: Vec<Vec<Vec<u8>>> = Vec::new();
     let objects = if p.once_in(40) { p.between(4, 64) } else { p.between(0, 4) };
     for number in 0..objects {
@@ -174,7 +192,7 @@ fn set(p: &mut Prng) -> Vec<u8> {
     while chains.iter().any(|chain| !chain.is_empty()) || windows {
         match p.below(12) {
             0 if windows => {
-                stream.extend(plain(WDS, &wds_body(p, 2)));
+                stream.extend(plain(WDS, &[wds_body(p, 2), tail(p)].concat()));
                 windows = false;
             }
             1 => stream.extend(plain(PDS, &pds_body(p, 2))),
@@ -189,6 +207,12 @@ fn set(p: &mut Prng) -> Vec<u8> {
     }
     stream.extend(segment(END, p.next() as u32, 0, &[]));
     stream
+}
+
+/// Mostly nothing, else some bytes.
+fn tail(p: &mut Prng) -> Vec<u8> {
+    let len = if p.once_in(4) { p.between(1, 20) } else { 0 };
+    p.bytes(len)
 }
 
 /// The fragments of one object, whose lengths agree.

@@ -33,7 +33,7 @@ pub const LAYER: Layer = Layer {
 };
 
 /// The added refusal of a set number at or past the count.
-const NO_SUCH_SET: u8 = 36;
+pub const NO_SUCH_SET: u8 = 36;
 
 /// Compares the sets of a stream, the objects of each set and of some that are not there, and the card lines.
 pub fn check(stream: &[u8], tally: &mut Tally) -> Result<(), String> {
@@ -60,6 +60,30 @@ pub fn check(stream: &[u8], tally: &mut Tally) -> Result<(), String> {
                 .try_for_each(|number| check_objects(stream, *number, &Err(NO_SUCH_SET), tally))
         }
     }
+}
+
+/// Compares the sets of a long stream, the objects of some of them, the card lines, and the objects of each set from
+/// its bytes alone: that is how a player goes through a film.
+pub fn check_browsing(stream: &[u8], tally: &mut Tally) -> Result<(), String> {
+    let sets = match oracle::sets(stream) {
+        Ok(sets) => sets,
+        Err(_) => return check(stream, tally),
+    };
+    check_sets(stream, &Ok(([], sets.iter().map(|set| set.record).collect())), tally)?;
+    let mut cards = Ok(String::new());
+    for (number, set) in (0..).zip(&sets) {
+        let [from, to, _] = set.record;
+        let alone = &stream[from as usize..to as usize];
+        let one =
+            oracle::sets(alone).map_err(|number| format!("a set's bytes alone are refused: {number}"))?;
+        check_objects(alone, 0, &oracle::objects(alone, &one[0]), tally)?;
+        let objects = oracle::objects(stream, set);
+        if number % (sets.len() as u64 / 4 + 1) == 0 {
+            check_objects(stream, number, &objects, tally)?;
+        }
+        cards = cards.and_then(|lines| Ok(lines + &oracle::card(set, &objects?)));
+    }
+    check_cards(stream, cards, tally)
 }
 
 /// Compares the set records of a stream with those wanted.

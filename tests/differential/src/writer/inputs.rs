@@ -25,6 +25,7 @@ pub fn groups() -> Vec<Group> {
         group("streams of 65,535 segments and more", |run| streams(run, segments::long_streams)),
         group("good streams", |run| streams(run, segments::good_streams)),
         group("damaged streams", |run| streams(run, segments::damaged_streams)),
+        group("hours of captions", |run| streams(run, sets::hours)),
         group("good sets", |run| streams(run, sets::good)),
         group("random segments of sets", |run| streams(run, sets::random)),
         group("0 to 300 placements and windows, and more", counts),

@@ -36,19 +36,26 @@ pub const LAYER: Layer = Layer {
 /// Compares the writing of each accepted segment from the front of a stream, and the writes of the whole stream.
 pub fn check(stream: &[u8], tally: &mut Tally) -> Result<(), String> {
     let mut rest = stream;
-    let mut cuts = Vec::new();
     while !rest.is_empty() {
-        let (read, used) = match first(rest) {
-            Ok(segment) => segment,
-            Err(number) => return check_writes(stream, &Err(number), tally),
-        };
+        let Ok((read, used)) = first(rest) else { break };
         let written = read.encode();
         assert!(written == oracle::cut(&rest[..used]), "the Rust writes something else than the cut segment");
-        check_fields(&Fields::read(&rest[..used])?, &Ok(written.clone()), tally)?;
-        cuts.push(written);
+        check_fields(&Fields::read(&rest[..used])?, &Ok(written), tally)?;
         rest = &rest[used..];
     }
-    check_writes(stream, &Ok(cuts), tally)
+    check_writes(stream, &cuts(stream), tally)
+}
+
+/// The cut segments of a stream, as the Rust writes them, or the number.
+pub fn cuts(stream: &[u8]) -> WantedCuts {
+    let mut rest = stream;
+    let mut cuts = Vec::new();
+    while !rest.is_empty() {
+        let (read, used) = first(rest)?;
+        cuts.push(read.encode());
+        rest = &rest[used..];
+    }
+    Ok(cuts)
 }
 
 /// Compares the writing of fields of any kind, writable or not.
