@@ -9,6 +9,7 @@ ghost use Prim.Native.Nat.{_-_, _<_};
 ghost use lib.ListN.{length, drop};
 ghost use Rattle.pgs_base.specs.Cursor.{outcome, takenAt};
 ghost use Rattle.pgs_body_reader.specs.Reader.{Taking, atStart, leftOf, Reads, Rests};
+ghost use Rattle.pgs_body_reader.specs.Fragment.{Headed};
 
 pub struct BodyReader<'a> {
     buf: &'a [u8],
@@ -25,6 +26,15 @@ pub enum Field {
 pub struct Step {
     pub field: Field,
     pub next: usize,
+}
+
+// The fields at the front of an ODS body up to the declared length, each as its read answered it, and how many bytes are left.
+pub struct FragmentHead {
+    pub object_id: Field,
+    pub object_version: Field,
+    pub flag: Field,
+    pub declared_length: Field,
+    pub left: usize,
 }
 
 fn take(cursor: BodyCursor, buf: &[u8], width: usize) -> Taken
@@ -117,5 +127,24 @@ impl<'a> BodyReader<'a> {
         let rest = rest_at(self.buf, self.pos);
         self.pos = self.buf.len();
         rest
+    }
+}
+
+// The head of a fragment, read through a reader. Its parameter is a plain slice, so whoever calls it needs no walk.
+pub fn fragment_head(body: &[u8]) -> FragmentHead
+    ensures { λ r. ⌜ Headed (now (body .entry)) r ⌝ }
+{
+    let mut reader = BodyReader::new(body);
+    let object_id = reader.u16();
+    let object_version = reader.u8();
+    let flag = reader.u8();
+    let declared_length = reader.u24();
+    let left = reader.remaining();
+    FragmentHead {
+        object_id,
+        object_version,
+        flag,
+        declared_length,
+        left,
     }
 }
