@@ -118,3 +118,18 @@ pub fn parse_segments(s: &[u8], list: &mut [SegmentRecord]) -> StreamAnswer
     fill(s, list, plan.stored);
     plan.answer
 }
+
+// A list of eight records by value, and what a call that was lent it answered.
+pub struct Eight {
+    pub answer: StreamAnswer,
+    pub list: [SegmentRecord; 8],
+}
+
+// The same of a list that is passed by value and handed back: whoever calls it needs no walk.
+pub fn parse_eight(s: &[u8], list: [SegmentRecord; 8]) -> Eight
+    ensures { λ r. ⌜ Delivered (streamVerdict (now (s .entry))) (segmentCount (now (s .entry))) (segmentRecords (now (s .entry))) list (r .list) (streamOutcome (r .answer)) ⌝ }
+{
+    let mut held = list;
+    let answer = parse_segments(s, &mut held);
+    Eight { answer, list: held }
+}
