@@ -1,0 +1,4 @@
+pub mod Held
+pub mod HeadLaws
+pub mod Lent
+pub mod Reading
