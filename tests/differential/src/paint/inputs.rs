@@ -231,8 +231,9 @@ fn empty(to: &mut Sink) {
     to.stream(&[pcs((4, 3), &[]), ods(7, (65_535, 65_535), &[]), end()].concat());
 }
 
-/// Some sets of captions, each alone.
+/// Some sets of captions, each alone, and the sample sentences.
 fn screens(to: &mut Sink) {
+    to.stream(include_bytes!("../../../../samples/sentences.sup"));
     let mut p = Prng::named(to.seed, "screens");
     let some = captions(&mut p, 12);
     let mut from = 0;
