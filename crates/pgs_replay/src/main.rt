@@ -38,6 +38,9 @@ fn replay(call: u8, a: u16, b: u16, input: &[u8]) {
     if call == b'B' {
         read::bitmap(input, a, b);
     }
+    if call == b'I' {
+        read::plane(input, a);
+    }
     if call == b'Y' {
         read::color(input);
     }

@@ -9,6 +9,8 @@ use pgs_cells::pcs::pcs_cells;
 use pgs_color::palette::Looked;
 use pgs_color::palette::Updated;
 use pgs_color::ycbcr::ycbcr709_to_rgb;
+use pgs_render::render::RenderAnswer;
+use pgs_render::render::render;
 use pgs_segment::ods::Ods;
 use pgs_segment::ods::OdsAnswer;
 use pgs_segment::pcs::Pcs;
@@ -275,5 +277,30 @@ pub(crate) fn color(input: &[u8]) {
     print::number(c.r as u64);
     print::number(c.g as u64);
     print::number(c.b as u64);
+    print::line();
+}
+
+fn print_plane(answer: RenderAnswer) {
+    print::text(b"plane");
+    match answer {
+        RenderAnswer::Refused(why) => {
+            print::refused(why);
+        }
+        RenderAnswer::Shown(width, height, pts) => {
+            print::done();
+            print::small(width);
+            print::small(height);
+            print::number(pts as u64);
+        }
+    }
+}
+
+// Set a, painted.
+pub(crate) fn plane(input: &[u8], a: u16) {
+    let mut scratch = [9u8; 40];
+    let mut pixels = [9u8; 52];
+    print_plane(render(input, a as usize, &mut scratch, &mut pixels));
+    print::bytes(&scratch);
+    print::bytes(&pixels);
     print::line();
 }

@@ -34,14 +34,15 @@ pub fn run(seed: u64) {
     row("painting a set, 1920 by 1080", painting(&sentence(&mut p)));
     row("browsing: an hour, 100 planes", browsing(&hour, 100));
 
-    println!("\nmilliseconds of the library, as the input grows; what {LARGEST} times the input takes\n");
-    let heads = STEPS.map(|step| format!("{step:>8} x"));
-    println!("{:32} {} {:>10} {:>10}", "", heads.join(" "), "library", "Rust");
+    println!("\nas the input grows: milliseconds of the library, ratio; how often the time of 1 x, at {LARGEST} x\n");
+    let heads = STEPS.map(|step| format!("{step:>13} x"));
+    println!("{:22} {} {:>10} {:>10}", "", heads.join(" "), "library", "Rust");
     let minute = captions(&mut p, HOUR / LARGEST);
     growth("reading", |times| reading(&minute.repeat(times)));
     growth("grouping", |times| grouping(&minute.repeat(times)));
     growth("grouping and objects", |times| objects(&minute.repeat(times)));
     growth("reading and writing", |times| writing(&minute.repeat(times)));
+    growth("browsing, 18 planes", |times| browsing(&minute.repeat(times), HOUR / LARGEST));
     let lines = |all: &[u8], times: usize| {
         let some = &all[SCREEN.0 * LETTERS..][..SCREEN.0 * (SCREEN.1 / LARGEST)];
         some.repeat(times)
@@ -82,19 +83,23 @@ fn timed(mut ours: impl FnMut(), mut theirs: impl FnMut()) -> Times {
     best
 }
 
-fn row(name: &str, Times { library, rust }: Times) {
-    let ratio = library.as_secs_f64() / rust.as_secs_f64();
-    println!("{name:32} {:>7.3} ms {:>7.3} ms {ratio:>6.2}", millis(library), millis(rust));
+fn row(name: &str, times: Times) {
+    let (library, rust) = (millis(times.library), millis(times.rust));
+    println!("{name:32} {library:>7.3} ms {rust:>7.3} ms {:>6.2}", ratio(&times));
+}
+
+fn ratio(times: &Times) -> f64 {
+    times.library.as_secs_f64() / times.rust.as_secs_f64()
 }
 
 /// The times for 1, 4, 16 and 64 times the input.
 fn growth(name: &str, measure: impl Fn(usize) -> Times) {
     let times = STEPS.map(measure);
-    let each = times.each_ref().map(|times| format!("{:>10.4}", millis(times.library)));
+    let each = times.each_ref().map(|times| format!("{:>9.4} {:>5.2}", millis(times.library), ratio(times)));
     let [first, .., last] = &times;
     let grown = |side: fn(&Times) -> Duration| side(last).as_secs_f64() / side(first).as_secs_f64();
     let (library, rust) = (grown(|times| times.library), grown(|times| times.rust));
-    println!("{name:32} {} {library:>8.1} x {rust:>8.1} x", each.join(" "));
+    println!("{name:22} {} {library:>8.1} x {rust:>8.1} x", each.join(" "));
 }
 
 fn millis(time: Duration) -> f64 {

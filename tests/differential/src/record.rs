@@ -7,9 +7,10 @@
 use crate::compare::Wanted;
 use crate::generate::{END, ODS, PCS, PDS, WDS};
 use crate::numbers::TOO_SHORT;
+use crate::paint::oracle::WantedPlane;
 use crate::prng::Prng;
 use crate::writer::fields::{Body, Fields};
-use crate::{bitmap, color, segments, sets, writer};
+use crate::{bitmap, color, paint, segments, sets, writer};
 use std::collections::{BTreeMap, BTreeSet};
 use std::path::Path;
 use std::{fs, io};
@@ -95,7 +96,12 @@ fn sort(command: &str, input: &[u8]) -> u16 {
     let number = |answer: Option<u8>| answer.unwrap_or(0) as u16;
     match command {
         "stream" | "writes" => number(segments::oracle::segments(input).err()),
-        "sets" | "browse" | "paint" => match sets::oracle::sets(input) {
+        "paint" => match painted(input, 0) {
+            WantedPlane::Refused(number) => number as u16,
+            WantedPlane::Needs(..) => TOO_SHORT as u16,
+            WantedPlane::Read(painting) => number(painting.painted.err()),
+        },
+        "sets" | "browse" => match sets::oracle::sets(input) {
             Err(refused) => refused as u16,
             Ok(sets) => number(sets.iter().find_map(|set| sets::oracle::objects(input, set).err())),
         },
@@ -180,6 +186,7 @@ impl Call {
                 let [_, r, g, b] = color::converted(input[0], input[1], input[2]).to_be_bytes();
                 format!("color {r} {g} {b}")
             }
+            b'I' => plane(input, a as usize),
             b'R' => writes(input, a as usize),
             letter => {
                 let (_, writer, room) = WRITERS.into_iter().find(|w| w.0 == letter).expect("a call's letter");
@@ -219,8 +226,7 @@ fn calls(command: &str, input: &[u8]) -> Vec<Call> {
             vec![Call::with(b'R', (u16::MAX, 0), input), Call::with(b'R', (fewer, 0), input)]
         }
         "sets" => {
-            let count = sets::oracle::sets(input).map_or(0, |sets| sets.len() as u16);
-            let objects = (0..=count).map(|set| Call::with(b'J', (set, 0), input));
+            let objects = numbers(input).map(|set| Call::with(b'J', (set, 0), input));
             [Call::new(b'G', input), Call::new(b'L', input)].into_iter().chain(objects).collect()
         }
         "bitmap" => {
@@ -237,10 +243,17 @@ fn calls(command: &str, input: &[u8]) -> Vec<Call> {
             None => vec![],
         },
         "color" => vec![Call::new(b'Y', input)],
-        "paint" | "browse" => vec![],
+        "paint" => numbers(input).map(|set| Call::with(b'I', (set, 0), input)).collect(),
+        "browse" => vec![],
         "palettes" => palettes(input),
         command => body_call(kind_of(command), input).into_iter().collect(),
     }
+}
+
+/// The numbers of a stream's sets; where there are none, or the stream is very short, one more.
+fn numbers(stream: &[u8]) -> std::ops::Range<u16> {
+    let count = sets::oracle::sets(stream).map_or(0, |sets| sets.len() as u16);
+    0..count + u16::from(count == 0 || stream.len() < 80)
 }
 
 /// A writer with a list of up to two records; the input is as long as with two.
@@ -345,6 +358,34 @@ fn objects(stream: &[u8], set: usize) -> String {
             let number = other.err().unwrap_or(TOO_SHORT);
             format!("objects refused {number}{}{}", rows::<u64, 7>(3, &[]), bytes(12, &[]))
         }
+    }
+}
+
+/// What painting a set comes to.
+fn painted(stream: &[u8], set: usize) -> WantedPlane {
+    match sets::oracle::sets(stream) {
+        Err(number) => WantedPlane::Refused(number),
+        Ok(sets) => match sets.get(set) {
+            Some(set) => paint::oracle::plane(stream, set),
+            None => WantedPlane::Refused(sets::NO_SUCH_SET),
+        },
+    }
+}
+
+/// A painted set: a scratch of 40 bytes, and a plane of 52.
+fn plane(stream: &[u8], set: usize) -> String {
+    let line = |answer: &str, scratch: &[u8], plane: &[u8]| {
+        format!("plane {answer}{}{}", bytes(40, scratch), bytes(52, plane))
+    };
+    match painted(stream, set) {
+        WantedPlane::Refused(number) => line(&format!("refused {number}"), &[], &[]),
+        WantedPlane::Read(p) if p.needs.0 <= 40 && p.needs.1 <= 52 => match &p.painted {
+            Ok((plane, [width, height, pts])) => {
+                line(&format!("accepted {width} {height} {pts}"), &p.scratch, plane)
+            }
+            Err(number) => line(&format!("refused {number}"), &p.scratch, &[]),
+        },
+        _ => line(&format!("refused {TOO_SHORT}"), &[], &[]),
     }
 }
 

@@ -2,7 +2,7 @@
 
 use super::check;
 use crate::bitmap::codes::{good_data, runs};
-use crate::captions::captions;
+use crate::captions::{captions, HOUR};
 use crate::generate::{damaged, segment, starts, CROPPED, END, ODS, PCS, PDS, WDS};
 use crate::prng::Prng;
 use crate::run::{Group, Run, Sink};
@@ -231,8 +231,9 @@ fn empty(to: &mut Sink) {
     to.stream(&[pcs((4, 3), &[]), ods(7, (65_535, 65_535), &[]), end()].concat());
 }
 
-/// Some sets of captions, each alone.
+/// Some sets of captions, each alone, a quarter of an hour, and the sample sentences.
 fn screens(to: &mut Sink) {
+    to.stream(include_bytes!("../../../../samples/sentences.sup"));
     let mut p = Prng::named(to.seed, "screens");
     let some = captions(&mut p, 12);
     let mut from = 0;
@@ -242,6 +243,7 @@ fn screens(to: &mut Sink) {
             from = at + 13;
         }
     }
+    to.stream(&captions(&mut p, HOUR / 4));
 }
 
 /// A size: mostly small, now and then 0 or larger.

@@ -27,15 +27,20 @@ pub const LAYER: Layer = Layer {
     )],
 };
 
-/// Compares the plane of each set of a stream, and of some that are not there.
+/// Of a stream with more sets, some are painted.
+const MOST_SETS: usize = 64;
+
+/// Compares the plane of each set of a stream, of the last and some others if there are many, and of some that are not
+/// there.
 pub fn check(stream: &[u8], tally: &mut Tally) -> Result<(), String> {
     match crate::sets::oracle::sets(stream) {
         Err(number) => [0, u64::MAX]
             .iter()
             .try_for_each(|set| check_plane(stream, *set, &WantedPlane::Refused(number), tally)),
         Ok(sets) => {
-            for (number, set) in (0..).zip(&sets) {
-                check_plane(stream, number, &oracle::plane(stream, set), tally)?;
+            let step = if sets.len() > MOST_SETS { sets.len() / 7 } else { 1 };
+            for (number, set) in sets.iter().enumerate().rev().step_by(step) {
+                check_plane(stream, number as u64, &oracle::plane(stream, set), tally)?;
             }
             let past = sets.len() as u64;
             [past, past + (1 << 32), u64::MAX]
