@@ -22,9 +22,8 @@ use Rattle.pgs_base.specs.declared.«segment_type».SegmentType.{SegmentType}
 use Rattle.pgs_base.specs.declared.«segment_type».SegmentType.the-variants.{Pds, Ods, Pcs, Wds, End, Other}
 use Rattle.pgs_set.proofs.Choices.{pick-first, pick-second}
 use Rattle.pgs_set.proofs.WalkLaws.{step-here, pieces-here, pieces-end, within-here, good-after, group-here, stands-on, kind-accepted, type-of-piece, piece-length, head-field}
-use Rattle.pgs_set.specs.Sets.{DisplaySet, groupVerdict, kindVerdict, stateAfter, isPcs, isEnd, opens, throughEnd, bytesIn, setsFrom, setsOf, setCount, setsVerdict, endOf, setRow, setRows}
+use Rattle.pgs_set.specs.Sets.{DisplaySet, noSet, groupVerdict, kindVerdict, stateAfter, isPcs, isEnd, opens, throughEnd, bytesIn, setsFrom, setsOf, setCount, setsVerdict, endOf, setRow, setRows}
 use Rattle.pgs_set.specs.Walks.{piecesAt, Standing, InSet, Ends, SetStands, endFrom, setAt}
-use Rattle.pgs_set.specs.Objects.{noSet}
 use Rattle.pgs_set.specs.declared.grouping.Grouping.{Grouping}
 use Rattle.pgs_set.specs.declared.grouping.Grouping.the-variants.{Outside, Inside}
 

@@ -39,7 +39,7 @@ pub enum SetAnswer {
 }
 
 // The head of the segment at a place where one is known to stand.
-pub(crate) fn header_at(s: &[u8], at: usize) -> SegmentHeader
+fn header_at(s: &[u8], at: usize) -> SegmentHeader
     requires { ⌜ stepVerdict (drop at (now s)) ≡ accepted ⌝ }
     ensures { λ r. ⌜ r ≡ headerFields (drop at (now (s .entry))) ⌝ }
 {
@@ -104,7 +104,8 @@ fn count_sets(s: &[u8]) -> SetsAnswer
     grouped(state, n)
 }
 
-pub(crate) fn is_end(kind: SegmentType) -> bool
+// Whether a segment of this kind closes a set.
+pub fn is_end(kind: SegmentType) -> bool
     ensures { λ r. ⌜ r ≡ isEnd kind ⌝ }
 {
     match kind {
@@ -118,7 +119,7 @@ pub(crate) fn is_end(kind: SegmentType) -> bool
 }
 
 // The place just after the END of the set that is open at `from`.
-pub(crate) fn set_end(s: &[u8], from: usize) -> usize
+fn set_end(s: &[u8], from: usize) -> usize
     requires { ⌜ InSet (now s) from ⌝ }
     ensures { λ r. ⌜ Ends (now (s .entry)) from r ⌝ }
 {
@@ -133,7 +134,7 @@ pub(crate) fn set_end(s: &[u8], from: usize) -> usize
 }
 
 // The place of the PCS of set number k, which is known to exist.
-pub(crate) fn set_place(s: &[u8], k: usize) -> usize
+fn set_place(s: &[u8], k: usize) -> usize
     requires { ⌜ setsVerdict (now s) ≡ accepted ⌝ }
     requires { ⌜ k < setCount (now s) ⌝ }
     ensures { λ r. ⌜ SetStands (now (s .entry)) k r ⌝ }
