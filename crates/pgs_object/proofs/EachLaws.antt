@@ -9,7 +9,7 @@ use lib.Seq.{drop-cons}
 use Rattle.pgs_base.specs.Outcome.{Verdict, accepted, Outcome, gives, refuses, outcomeOf, andThen}
 use Rattle.pgs_base.proofs.Outcomes.{gave, gave-value, turned-down, gives-as, refuses-as}
 use Rattle.pgs_segment.specs.Header.{headerFields}
-use Rattle.pgs_segment.specs.Stream.{stepVerdict}
+use Rattle.pgs_stream.specs.Stream.{stepVerdict}
 use Rattle.pgs_segment.specs.declared.header.SegmentHeader.{SegmentHeader}
 use Rattle.pgs_object.proofs.ObjectLaws.{set-fragments}
 use Rattle.pgs_set.proofs.SetLaws.{Finding, finding, finds-more, finds-on, found-set, opens-read, ends-read, outside-here, read-within}

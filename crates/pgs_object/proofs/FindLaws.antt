@@ -8,13 +8,13 @@ use lib.ListN.{length, take, drop}
 use lib.Seq.{append-snoc}
 use Rattle.pgs_base.specs.Outcome.{Verdict, accepted, refused, Outcome, gives, refuses, andThen, pick}
 use Rattle.pgs_segment.specs.Header.{headerFields, sizeOf}
-use Rattle.pgs_base.specs.Kinds.{typeOf}
+use Rattle.pgs_views.specs.Kinds.{typeOf}
 use Rattle.pgs_segment.specs.OneSegment.{segmentType, usedBy, bodyAt}
 use Rattle.pgs_segment.specs.OdsBody.{flagOf, headSize}
-use Rattle.pgs_segment.specs.Stream.{stepVerdict}
+use Rattle.pgs_stream.specs.Stream.{stepVerdict}
 use Rattle.pgs_segment.specs.declared.header.SegmentHeader.{SegmentHeader}
-use Rattle.pgs_base.specs.declared.«segment_type».SegmentType.{SegmentType}
-use Rattle.pgs_base.specs.declared.«segment_type».SegmentType.the-variants.{Pds, Ods, Pcs, Wds, End, Other}
+use Rattle.pgs_views.specs.declared.«segment_type».SegmentType.{SegmentType}
+use Rattle.pgs_views.specs.declared.«segment_type».SegmentType.the-variants.{Pds, Ods, Pcs, Wds, End, Other}
 use Rattle.pgs_object.proofs.FragmentLaws.{none-left, left-same, left-next, bytes-within}
 use Rattle.pgs_set.proofs.SetLaws.{kind-read, size-read, inside-here, inside-on}
 use Rattle.pgs_set.proofs.WalkLaws.{within-here}

@@ -12,15 +12,15 @@ use Rattle.pgs_base.specs.Outcome.{Verdict, accepted, refused, Outcome, gives, 
 use Rattle.pgs_base.proofs.Outcomes.{gave-value, turned-down, first-accepts, second-holds, holds}
 use Rattle.pgs_segment.specs.Fields.{bodyVerdict}
 use Rattle.pgs_segment.specs.Header.{sizeOf}
-use Rattle.pgs_base.specs.Fragments.{fragmentOf, isFirst, isLast}
+use Rattle.pgs_views.specs.Fragments.{fragmentOf, isFirst, isLast}
 use Rattle.pgs_segment.specs.OdsBody.{flagOf, headSize, odsOf, odsData, odsList, odsVerdict}
 use Rattle.pgs_segment.specs.OneSegment.{segmentType, segmentVerdict, usedBy, bodyAt}
-use Rattle.pgs_segment.specs.Stream.{stepVerdict}
+use Rattle.pgs_stream.specs.Stream.{stepVerdict}
 use Rattle.pgs_segment.proofs.SegmentLaws.{accepted-body}
-use Rattle.pgs_segment.proofs.StreamLaws.{step-within}
-use Rattle.pgs_base.specs.declared.«segment_type».SegmentType.{SegmentType}
-use Rattle.pgs_base.specs.declared.«segment_type».SegmentType.the-variants.{Pds, Ods, Pcs, Wds, End, Other}
-use Rattle.pgs_base.specs.declared.«fragment_flag».FragmentFlag.{FragmentFlag}
+use Rattle.pgs_stream.proofs.StreamLaws.{step-within}
+use Rattle.pgs_views.specs.declared.«segment_type».SegmentType.{SegmentType}
+use Rattle.pgs_views.specs.declared.«segment_type».SegmentType.the-variants.{Pds, Ods, Pcs, Wds, End, Other}
+use Rattle.pgs_views.specs.declared.«fragment_flag».FragmentFlag.{FragmentFlag}
 use Rattle.pgs_segment.specs.declared.ods.Ods as declared-ods
 use Rattle.pgs_segment.specs.declared.segment.BodyList.{BodyList}
 use Rattle.pgs_set.proofs.Choices.{pick-first, pick-second}

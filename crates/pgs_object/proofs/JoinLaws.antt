@@ -11,12 +11,12 @@ use lib.Seq.{length-take-le, take-length}
 use Rattle.pgs_base.specs.Outcome.{Verdict, accepted, refused, laid, pick}
 use Rattle.pgs_base.proofs.Front.{Front, begins, parted, filled}
 use Rattle.pgs_segment.specs.Header.{headerFields}
-use Rattle.pgs_base.specs.Kinds.{typeOf}
+use Rattle.pgs_views.specs.Kinds.{typeOf}
 use Rattle.pgs_segment.specs.OneSegment.{segmentType, usedBy}
-use Rattle.pgs_segment.specs.Stream.{Reading, stepVerdict}
-use Rattle.pgs_segment.proofs.StreamLaws.{read-stops}
+use Rattle.pgs_stream.specs.Stream.{Reading, stepVerdict}
+use Rattle.pgs_stream.proofs.StreamLaws.{read-stops}
 use Rattle.pgs_segment.specs.declared.header.SegmentHeader.{SegmentHeader}
-use Rattle.pgs_base.specs.declared.«segment_type».SegmentType.{SegmentType}
+use Rattle.pgs_views.specs.declared.«segment_type».SegmentType.{SegmentType}
 use Rattle.pgs_set.proofs.Choices.{pick-first, pick-second}
 use Rattle.pgs_object.proofs.FragmentLaws.{none-left, left-same, left-next, data-within, data-part}
 use Rattle.pgs_object.proofs.Lists.{drop-next}

@@ -11,8 +11,8 @@ use lib.Seq.{length-take-le}
 use Rattle.pgs_base.specs.Outcome.{Verdict, accepted, refused, Outcome, gives, refuses, outcomeOf, andThen, unless, laid, Delivered, pick}
 use Rattle.pgs_segment.specs.Header.{headerFields}
 use Rattle.pgs_segment.specs.OneSegment.{segmentType, usedBy}
-use Rattle.pgs_segment.specs.Stream.{Reading, stepVerdict}
-use Rattle.pgs_segment.proofs.StreamLaws.{read-stops}
+use Rattle.pgs_stream.specs.Stream.{Reading, stepVerdict}
+use Rattle.pgs_stream.proofs.StreamLaws.{read-stops}
 use Rattle.pgs_segment.specs.declared.header.SegmentHeader.{SegmentHeader}
 use Rattle.pgs_base.proofs.Outcomes.{gave, gave-value, turned-down, delivers-short, delivers-all}
 use Rattle.pgs_set.proofs.Choices.{pick-first, pick-second}

@@ -12,7 +12,7 @@ use lib.Seq.{take-at, drop-append-seam, take-append-seam}
 use Rattle.pgs_base.specs.Outcome.{Verdict, accepted, refused, Outcome, gives, refuses, outcomeOf, laid, pick}
 use Rattle.pgs_base.proofs.Outcomes.{gave, gave-value}
 use Rattle.pgs_segment.specs.OneSegment.{segmentType, usedBy}
-use Rattle.pgs_segment.specs.Stream.{Reading, stepVerdict}
+use Rattle.pgs_stream.specs.Stream.{Reading, stepVerdict}
 use Rattle.pgs_set.proofs.Choices.{pick-first, pick-second}
 use Rattle.pgs_object.proofs.FragmentLaws.{data-within, data-part}
 use Rattle.pgs_object.proofs.ObjectLaws.{Begins, AllBegin, all-begin, piece-here}

@@ -1,20 +1,20 @@
 // The fragments of a display set, and the chains that they make up (01, module 7).
 use crate::walk::header_at;
-use pgs_base::fragment_flag::FragmentFlag;
 use pgs_base::refusal::Refusal;
-use pgs_base::segment_type::SegmentType;
 use pgs_segment::ods::Dimensions;
 use pgs_segment::ods::Ods;
 use pgs_segment::ods::OdsAnswer;
 use pgs_segment::segment::BodyList;
 use pgs_set::set::is_end;
+use pgs_views::fragment_flag::FragmentFlag;
+use pgs_views::segment_type::SegmentType;
 ghost use mathlib.Core.Path.{_≡_};
 ghost use Prim.Native.Nat.{_+_, _≤_, _<_, _^_};
 ghost use mathlib.Core.Bool.{true, false};
 ghost use lib.ListN.{length, take, drop};
 ghost use Rattle.pgs_base.specs.Outcome.{accepted, pick};
 ghost use Rattle.pgs_segment.specs.OneSegment.{segmentType, usedBy};
-ghost use Rattle.pgs_segment.specs.Stream.{stepVerdict};
+ghost use Rattle.pgs_stream.specs.Stream.{stepVerdict};
 ghost use Rattle.pgs_object.specs.Objects.{isOds, widthIn, heightIn, fragmentAt};
 ghost use Rattle.pgs_object.specs.Tables.{
   headOf,

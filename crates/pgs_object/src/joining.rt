@@ -2,7 +2,7 @@
 use crate::chain::is_ods;
 use crate::chain::read_fragment;
 use crate::walk::header_at;
-use pgs_base::segment_type::SegmentType;
+use pgs_views::segment_type::SegmentType;
 ghost use mathlib.Core.Path.{_≡_};
 ghost use Prim.Native.Nat.{_≤_};
 ghost use lib.ListN.{length};

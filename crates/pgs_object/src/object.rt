@@ -17,8 +17,6 @@ ghost use Rattle.pgs_object.specs.Reassembly.{
   objectRows,
   objectsOutcome,
   Reassembled,
-  partOf,
-  shownBy,
 };
 
 // The most objects that a set may have.
@@ -133,37 +131,4 @@ pub fn join_objects(s: &[u8], set: usize, scratch: &mut [u8]) -> ObjectsAnswer
 {
     let mut table = [[0usize; 10]; OBJECT_LIMIT];
     joined(s, set, &mut table, scratch)
-}
-
-// The part of `s` from `at`, of `n` bytes; empty where it would pass the end.
-fn part<'a>(s: &'a [u8], at: u64, n: u64) -> &'a [u8]
-    ensures { λ r. ⌜ now r ≡ partOf at n (now (s .entry)) ⌝ }
-{
-    let start = at as usize;
-    let len = n as usize;
-    if s.len() < start {
-        return &s[..0];
-    }
-    if s.len() - start < len {
-        return &s[..0];
-    }
-    let end = start + len;
-    &s[start..end]
-}
-
-// The data of an object, as a part of the stream or of the scratch, whichever holds it. A record that no call made, and that points
-// outside its holder, shows the empty part.
-pub fn object_data<'a>(stream: &'a [u8], scratch: &'a [u8], object: [u64; 7]) -> &'a [u8]
-    ensures { λ r. ⌜ now r ≡ shownBy (now (stream .entry)) (now (scratch .entry)) object ⌝ }
-{
-    let holder = object[4];
-    let place = object[5];
-    let len = object[6];
-    if holder == 0 {
-        return part(stream, place, len);
-    }
-    if holder == 1 {
-        return part(scratch, place, len);
-    }
-    &stream[..0]
 }

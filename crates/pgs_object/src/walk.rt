@@ -1,13 +1,13 @@
 // Walking over the segments of a stream that is known to be accepted.
-use pgs_base::segment_type::SegmentType;
 use pgs_segment::header::HeaderAnswer;
 use pgs_segment::header::SegmentHeader;
 use pgs_set::set::is_end;
+use pgs_views::segment_type::SegmentType;
 ghost use mathlib.Core.Path.{_≡_};
 ghost use lib.ListN.{drop};
 ghost use Rattle.pgs_base.specs.Outcome.{accepted};
 ghost use Rattle.pgs_segment.specs.Header.{headerFields};
-ghost use Rattle.pgs_segment.specs.Stream.{stepVerdict};
+ghost use Rattle.pgs_stream.specs.Stream.{stepVerdict};
 ghost use Rattle.pgs_set.specs.Walks.{InSet, Ends};
 
 // The head of the segment at a place where one is known to stand.

@@ -6,7 +6,7 @@ use Prim.Native.Nat.{ℕ, zero, suc, _+_, _<_}
 use native.Mathlib.Omega.{arith}
 use lib.ListN.{length, take, drop}
 use Rattle.pgs_base.specs.Bytes.{big, num, Bytes}
-use Rattle.pgs_base.specs.Fragments.{fragmentOf, isFirst}
+use Rattle.pgs_views.specs.Fragments.{fragmentOf, isFirst}
 use Rattle.pgs_base.specs.Outcome.{pick}
 use Rattle.pgs_base.proofs.Digits.{bytes-take, bytes-drop}
 use Rattle.pgs_segment.specs.Header.{sizeOf}

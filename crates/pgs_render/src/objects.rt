@@ -1,7 +1,7 @@
 // The tests of a display set's objects and placements, before their bitmaps are stored: 01, 'Why a call is turned down'.
 use pgs_bitmap::bitmap::Decoded;
 use pgs_bitmap::bitmap::check_rle;
-use pgs_object::object::object_data;
+use pgs_object_view::view::object_data;
 ghost use mathlib.Core.Path.{_≡_};
 ghost use lib.Dec.{leb};
 ghost use Rattle.pgs_bitmap.specs.Decoding.{outcome};

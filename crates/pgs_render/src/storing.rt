@@ -1,7 +1,7 @@
 // Storing the bitmaps of a display set's objects in the scratch, after the joined data.
 use pgs_bitmap::bitmap::decode_rle;
 use pgs_bitmap_within::within::decode_within;
-use pgs_object::object::object_data;
+use pgs_object_view::view::object_data;
 ghost use mathlib.Core.Path.{_≡_};
 ghost use mathlib.Core.List.{_++_};
 ghost use Prim.Native.Nat.{_+_};

@@ -10,7 +10,7 @@ use Rattle.pgs_base.specs.Outcome.{Verdict, accepted, refused, gives, refuses, 
 use Rattle.pgs_base.proofs.Outcomes.{gives-as, refuses-as}
 use Rattle.pgs_segment.specs.Header.{headerFields, ptsOf}
 use Rattle.pgs_segment.specs.OneSegment.{usedBy}
-use Rattle.pgs_segment.specs.Stream.{stepVerdict}
+use Rattle.pgs_stream.specs.Stream.{stepVerdict}
 use Rattle.pgs_segment.specs.declared.header.SegmentHeader.{SegmentHeader}
 use Rattle.pgs_set.proofs.SetLaws.{size-read, outside-here, opens-here, set-here, set-ends, ends-read}
 use Rattle.pgs_set.proofs.WalkLaws.{head-field}

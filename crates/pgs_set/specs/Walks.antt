@@ -7,7 +7,7 @@ use mathlib.Core.List.{List, [], _∷_}
 use lib.ListN.{length, drop, getD}
 use Rattle.pgs_base.specs.Outcome.{accepted, Outcome, gives, refuses, outcomeOf}
 use Rattle.pgs_base.specs.Refusals.{numberOf}
-use Rattle.pgs_segment.specs.Stream.{readOf, streamVerdict}
+use Rattle.pgs_stream.specs.Stream.{readOf, streamVerdict}
 use Rattle.pgs_set.specs.Sets.{DisplaySet, noSet, setNumber, setVerdict, groupVerdict, setsFrom, throughEnd, bytesIn, setRow}
 use Rattle.pgs_set.specs.declared.grouping.Grouping.{Grouping}
 use Rattle.pgs_set.specs.declared.grouping.Grouping.the-variants.{Outside, Inside}

@@ -3,18 +3,18 @@ use crate::grouping::GroupStep;
 use crate::grouping::Grouping;
 use crate::grouping::group_segment;
 use pgs_base::refusal::Refusal;
-use pgs_base::segment_type::SegmentType;
 use pgs_segment::header::HeaderAnswer;
 use pgs_segment::header::SegmentHeader;
-use pgs_segment::stream::StreamAnswer;
-use pgs_segment::stream::count_segments;
+use pgs_stream::stream::StreamAnswer;
+use pgs_stream::stream::count_segments;
+use pgs_views::segment_type::SegmentType;
 ghost use mathlib.Core.Path.{_≡_};
 ghost use Prim.Native.Nat.{_≤_, _<_};
 ghost use mathlib.Core.List.{[]};
 ghost use lib.ListN.{length, drop};
 ghost use Rattle.pgs_base.specs.Outcome.{accepted, outcomeOf, laid, Delivered};
 ghost use Rattle.pgs_segment.specs.Header.{headerFields};
-ghost use Rattle.pgs_segment.specs.Stream.{readOf, stepVerdict, streamVerdict};
+ghost use Rattle.pgs_stream.specs.Stream.{readOf, stepVerdict, streamVerdict};
 ghost use Rattle.pgs_set.specs.Sets.{
   groupVerdict,
   isEnd,

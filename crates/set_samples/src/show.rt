@@ -43,7 +43,7 @@ fn print_object<'a>(stream: &'a [u8], scratch: &'a [u8], r: [u64; 7]) {
     print_number(r[5]);
     print_number(r[6]);
     io::write_all(STDOUT_FILENO, b" shows");
-    print_bytes(pgs_object::object::object_data(stream, scratch, r));
+    print_bytes(pgs_object_view::view::object_data(stream, scratch, r));
 }
 
 // The sets of the first n bytes, with room for two records.
