@@ -2,8 +2,8 @@
 // body reader, and the segments of a stream as structs in a list that was full of 9s before.
 use libc::STDOUT_FILENO;
 use pgs_body_reader::Field;
-use pgs_segment::stream::StreamAnswer;
 use pgs_segment_list::SegmentRecord;
+use pgs_stream::stream::StreamAnswer;
 
 fn print_number(n: u64) {
     io::write_all(STDOUT_FILENO, b" ");

@@ -4,5 +4,3 @@ pub mod Digits
 pub mod Front
 pub mod Lists
 pub mod Outcomes
-pub mod Takes
-pub mod Views

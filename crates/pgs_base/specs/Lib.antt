@@ -1,7 +1,3 @@
 pub mod Bytes
-pub mod Cursor
-pub mod Fragments
-pub mod Kinds
 pub mod Outcome
 pub mod Refusals
-pub mod States

@@ -1,8 +1,3 @@
-// What every layer shares: the refusals and their numbers, big-endian numbers, the body cursor, and the typed views of the kind, state
-// and flag bytes.
-pub mod composition_state;
-pub mod cursor;
-pub mod fragment_flag;
+// What every layer shares: the refusals and their numbers, and big-endian numbers.
 pub mod number;
 pub mod refusal;
-pub mod segment_type;

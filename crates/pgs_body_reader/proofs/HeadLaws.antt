@@ -4,7 +4,7 @@ use Prim.Native.Nat.{ℕ, _-_}
 use mathlib.Core.List.{List, [], _∷_}
 use lib.ListN.{length}
 use denote.Ref.{RefT, now}
-use Rattle.pgs_base.specs.Cursor.{takenAt}
+use Rattle.pgs_cursor.specs.Cursor.{takenAt}
 use Rattle.pgs_body_reader.specs.Fragment.{Headed}
 use Rattle.pgs_body_reader.specs.Reader.{fieldOutcome, numberOr, placeOr, atStart, leftOf, Reads}
 use Rattle.pgs_body_reader.specs.declared.BodyReader.{BodyReader}

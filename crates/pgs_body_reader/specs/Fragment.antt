@@ -3,7 +3,7 @@ use Prim.Native.Nat.{ℕ, _-_}
 use mathlib.Core.Path.{_≡_}
 use mathlib.Core.List.{List, [], _∷_}
 use lib.ListN.{length}
-use Rattle.pgs_base.specs.Cursor.{takenAt}
+use Rattle.pgs_cursor.specs.Cursor.{takenAt}
 use Rattle.pgs_base.specs.Outcome.{Outcome}
 use Rattle.pgs_body_reader.specs.Reader.{fieldOutcome, numberOr, placeOr}
 use Rattle.pgs_body_reader.specs.declared.FragmentHead.{FragmentHead}

@@ -5,7 +5,7 @@ use mathlib.Core.Path.{_≡_}
 use mathlib.Core.List.{List}
 use lib.ListN.{length, drop}
 use denote.Ref.{RefT, now}
-use Rattle.pgs_base.specs.Cursor.{takenAt}
+use Rattle.pgs_cursor.specs.Cursor.{takenAt}
 use Rattle.pgs_base.specs.Outcome.{Outcome, gives, refuses}
 use Rattle.pgs_base.specs.Refusals.{numberOf}
 use Rattle.pgs_body_reader.specs.declared.BodyReader.{BodyReader}

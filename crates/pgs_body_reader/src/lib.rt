@@ -1,13 +1,13 @@
 // The body reader of 01 in the form that it names: a struct that holds the body and its position. The borrow checker covers no
 // function over such a struct, so each method is proved by a walk of its MIR. A method has no branch: it takes the struct
 // apart and calls a covered function on the body and the position.
-use pgs_base::cursor::BodyCursor;
-use pgs_base::cursor::Taken;
 use pgs_base::refusal::Refusal;
+use pgs_cursor::cursor::BodyCursor;
+use pgs_cursor::cursor::Taken;
 ghost use mathlib.Core.Path.{_≡_};
 ghost use Prim.Native.Nat.{_-_, _<_};
 ghost use lib.ListN.{length, drop};
-ghost use Rattle.pgs_base.specs.Cursor.{outcome, takenAt};
+ghost use Rattle.pgs_cursor.specs.Cursor.{outcome, takenAt};
 ghost use Rattle.pgs_body_reader.specs.Reader.{Taking, atStart, leftOf, Reads, Rests};
 ghost use Rattle.pgs_body_reader.specs.Fragment.{Headed};
 

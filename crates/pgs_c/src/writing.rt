@@ -4,7 +4,14 @@ ghost use Rattle.pgs_cells.specs.OdsCells.{odsFrom};
 ghost use Rattle.pgs_cells.specs.PcsCells.{pcsFrom};
 ghost use Rattle.pgs_cells.specs.PdsCells.{pdsFrom};
 ghost use Rattle.pgs_encoding.specs.Writable.{writable};
-ghost use Rattle.pgs_writer.specs.Kinds.{pcsSegment, wdsSegment, pdsSegment, odsSegment, endSegment, otherSegment};
+ghost use Rattle.pgs_writer_base.specs.Kinds.{
+  pcsSegment,
+  wdsSegment,
+  pdsSegment,
+  odsSegment,
+  endSegment,
+  otherSegment,
+};
 
 #[no_mangle]
 pub extern "C" fn pgs_encode_pcs(

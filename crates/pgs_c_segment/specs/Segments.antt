@@ -11,7 +11,7 @@ use Rattle.pgs_cells.specs.PdsCells.{pdsCells}
 use Rattle.pgs_segment.specs.OdsBody.{odsOf, odsVerdict, odsList}
 use Rattle.pgs_segment.specs.PcsBody.{pcsOf, pcsVerdict, placementCount, placementRows}
 use Rattle.pgs_segment.specs.PdsBody.{pdsOf, pdsVerdict, entryCount, entryRows}
-use Rattle.pgs_segment.specs.Stream.{streamVerdict, segmentCount, segmentRows}
+use Rattle.pgs_stream.specs.Stream.{streamVerdict, segmentCount, segmentRows}
 use Rattle.pgs_segment.specs.WdsBody.{wdsVerdict, windowCount, windowRows}
 
 -- the stream: its records, and how many

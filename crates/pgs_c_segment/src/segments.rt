@@ -8,10 +8,10 @@ use pgs_segment::pcs::Pcs;
 use pgs_segment::pcs::PcsAnswer;
 use pgs_segment::pds::Pds;
 use pgs_segment::pds::PdsAnswer;
-use pgs_segment::stream::StreamAnswer;
-use pgs_segment::stream::parse_segments;
 use pgs_segment::wds::Wds;
 use pgs_segment::wds::WdsAnswer;
+use pgs_stream::stream::StreamAnswer;
+use pgs_stream::stream::parse_segments;
 ghost use Rattle.pgs_c_segment.specs.Segments.{
   SegmentsCall,
   PcsCall,

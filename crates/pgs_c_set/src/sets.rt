@@ -1,6 +1,6 @@
 // Display sets and their objects.
-use pgs_set::object::ObjectsAnswer;
-use pgs_set::object::reassemble_objects;
+use pgs_object::object::ObjectsAnswer;
+use pgs_object::object::reassemble_objects;
 use pgs_set::set::SetsAnswer;
 use pgs_set::set::parse_display_sets;
 ghost use Rattle.pgs_c_set.specs.Sets.{SetsCall, ObjectsCall};

@@ -12,7 +12,7 @@ use Rattle.pgs_c_writer.specs.Writing.{codeBy, setBy, WriteCall, WritesC
 use Rattle.pgs_encoding.specs.Encode.{encode}
 use Rattle.pgs_encoding.specs.Writes.{Written}
 use Rattle.pgs_segment.specs.Fields.{SegmentFields}
-use Rattle.pgs_segment.specs.Stream.{streamVerdict}
+use Rattle.pgs_stream.specs.Stream.{streamVerdict}
 use Rattle.pgs_stream_writer.specs.StreamWrites.{streamWrites, acceptedIn, writesDone, outputAfter}
 
 module _ (n : ℕ) where

@@ -12,9 +12,9 @@ use Rattle.pgs_cells.specs.PcsCells.{pcsFrom, pcsCellsFit}
 use Rattle.pgs_encoding.specs.Encode.{encode}
 use Rattle.pgs_encoding.specs.Writable.{writable}
 use Rattle.pgs_segment.specs.Fields.{SegmentFields}
-use Rattle.pgs_segment.specs.Stream.{streamVerdict}
+use Rattle.pgs_stream.specs.Stream.{streamVerdict}
 use Rattle.pgs_stream_writer.specs.StreamWrites.{streamWrites, acceptedIn, outputAfter}
-use Rattle.pgs_writer.specs.Kinds.{odsSegment, pcsSegment, pcsRowsWritable}
+use Rattle.pgs_writer_base.specs.Kinds.{odsSegment, pcsSegment, pcsRowsWritable}
 
 -- the number that an outcome answers, and the number of bytes after it
 abbrev pub codeBy : Outcome ℕ → ℕ

@@ -7,12 +7,12 @@ use pgs_cells::pds::pds_from;
 use pgs_stream_writer::stream::WritesAnswer;
 use pgs_stream_writer::stream::write_segments;
 use pgs_writer::end::encode_end;
-use pgs_writer::head::WriteAnswer;
 use pgs_writer::ods::encode_ods;
 use pgs_writer::other::encode_other;
-use pgs_writer::pcs::encode_pcs;
-use pgs_writer::pds::encode_pds;
-use pgs_writer::wds::encode_wds;
+use pgs_writer_base::head::WriteAnswer;
+use pgs_writer_lists::pds::encode_pds;
+use pgs_writer_lists::wds::encode_wds;
+use pgs_writer_pcs::pcs::encode_pcs;
 ghost use mathlib.Core.Path.{_≡_};
 ghost use Rattle.pgs_c_writer.specs.Writing.{
   codeBy,
@@ -26,8 +26,8 @@ ghost use Rattle.pgs_cells.specs.OdsCells.{odsFrom};
 ghost use Rattle.pgs_cells.specs.PcsCells.{pcsFrom};
 ghost use Rattle.pgs_cells.specs.PdsCells.{pdsFrom};
 ghost use Rattle.pgs_encoding.specs.Writable.{writable};
-ghost use Rattle.pgs_writer.specs.Answers.{writeOutcome};
-ghost use Rattle.pgs_writer.specs.Kinds.{
+ghost use Rattle.pgs_writer_base.specs.Answers.{writeOutcome};
+ghost use Rattle.pgs_writer_base.specs.Kinds.{
   pcsSegment,
   wdsSegment,
   pdsSegment,

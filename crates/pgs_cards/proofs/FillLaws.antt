@@ -14,15 +14,15 @@ use Rattle.pgs_segment.specs.Fields.{bodyOf, numbersOf}
 use Rattle.pgs_segment.specs.Header.{ptsOf}
 use Rattle.pgs_segment.specs.OdsBody.{odsOf}
 use Rattle.pgs_segment.specs.OneSegment.{segmentType, segmentVerdict, bodyAt, usedBy, fieldsOf, segmentOf}
-use Rattle.pgs_segment.specs.Stream.{readOf, stepVerdict, streamVerdict}
-use Rattle.pgs_segment.proofs.ReadingLaws.{own-fields}
+use Rattle.pgs_stream.specs.Stream.{readOf, stepVerdict, streamVerdict}
+use Rattle.pgs_stream.proofs.ReadingLaws.{own-fields}
 use Rattle.pgs_set.proofs.Choices.{pick-first, pick-second}
-use Rattle.pgs_set.proofs.JoinLaws.{part-back}
+use Rattle.pgs_object.proofs.JoinLaws.{part-back}
 use Rattle.pgs_set.proofs.WalkLaws.{step-here, pieces-here, pieces-end, within-here, good-after, type-of-piece, piece-length}
 use Rattle.pgs_set.specs.Sets.{isEnd, setsOf, setsVerdict}
 use Rattle.pgs_set.specs.Walks.{piecesAt}
-use Rattle.pgs_base.specs.declared.«segment_type».SegmentType.{SegmentType}
-use Rattle.pgs_base.specs.declared.«segment_type».SegmentType.the-variants.{Pds, Ods, Pcs, Wds, End, Other}
+use Rattle.pgs_views.specs.declared.«segment_type».SegmentType.{SegmentType}
+use Rattle.pgs_views.specs.declared.«segment_type».SegmentType.the-variants.{Pds, Ods, Pcs, Wds, End, Other}
 use Rattle.pgs_segment.specs.declared.segment.Segment as declared-segment
 use Rattle.pgs_set.specs.declared.grouping.Grouping.the-variants.{Outside}
 use Rattle.pgs_cards.proofs.FoldLaws.{openLines, lines-left, opened-few}

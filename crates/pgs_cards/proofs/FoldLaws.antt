@@ -6,17 +6,17 @@ use Prim.Native.Nat.{ℕ, _+_, _≤_}
 use native.Mathlib.Nat.{add-assoc}
 use native.Mathlib.Omega.{arith}
 use lib.ListN.{length}
-use Rattle.pgs_base.specs.Fragments.{fragmentOf, isFirst}
+use Rattle.pgs_views.specs.Fragments.{fragmentOf, isFirst}
 use Rattle.pgs_base.specs.Outcome.{accepted, andThen, pick}
 use Rattle.pgs_segment.specs.Fields.{bodyOf, numbersOf}
 use Rattle.pgs_segment.specs.Header.{ptsOf}
 use Rattle.pgs_segment.specs.OdsBody.{odsOf}
 use Rattle.pgs_segment.specs.OneSegment.{segmentType, bodyAt}
 use Rattle.pgs_segment.specs.PcsBody.{pcsOf}
-use Rattle.pgs_set.specs.Objects.{Fragment, Chain, isOds, fragmentAt, fragmentsFrom, opensChain, chainsOf}
+use Rattle.pgs_object.specs.Objects.{Fragment, Chain, isOds, fragmentAt, fragmentsFrom, opensChain, chainsOf}
 use Rattle.pgs_set.specs.Sets.{DisplaySet, groupVerdict, kindVerdict, stateAfter, isPcs, isEnd, throughEnd, setsFrom}
-use Rattle.pgs_base.specs.declared.«segment_type».SegmentType.{SegmentType}
-use Rattle.pgs_base.specs.declared.«segment_type».SegmentType.the-variants.{Pds, Ods, Pcs, Wds, End, Other}
+use Rattle.pgs_views.specs.declared.«segment_type».SegmentType.{SegmentType}
+use Rattle.pgs_views.specs.declared.«segment_type».SegmentType.the-variants.{Pds, Ods, Pcs, Wds, End, Other}
 use Rattle.pgs_set.specs.declared.grouping.Grouping.{Grouping}
 use Rattle.pgs_set.specs.declared.grouping.Grouping.the-variants.{Outside, Inside}
 use Rattle.pgs_segment.specs.declared.ods.Ods as declared-ods

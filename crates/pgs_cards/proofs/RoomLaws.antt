@@ -12,12 +12,12 @@ use Rattle.pgs_base.proofs.Outcomes.{first-holds, second-holds}
 use Rattle.pgs_segment.specs.Fields.{bodyVerdict}
 use Rattle.pgs_segment.specs.Header.{sizeOf}
 use Rattle.pgs_segment.specs.OneSegment.{segmentType, bodyAt}
-use Rattle.pgs_segment.specs.Stream.{readOf, streamVerdict, joined}
-use Rattle.pgs_segment.proofs.ReadingLaws.{Each, Whole, pieces-whole, pieces-joined}
+use Rattle.pgs_stream.specs.Stream.{readOf, streamVerdict, joined}
+use Rattle.pgs_stream.proofs.ReadingLaws.{Each, Whole, pieces-whole, pieces-joined}
 use Rattle.pgs_segment.proofs.SegmentLaws.{accepted-body}
 use Rattle.pgs_set.specs.Sets.{groupVerdict, kindVerdict, stateAfter, isPcs, throughEnd, bytesIn, setsFrom, setsOf, setCount, setsVerdict}
-use Rattle.pgs_base.specs.declared.«segment_type».SegmentType.{SegmentType}
-use Rattle.pgs_base.specs.declared.«segment_type».SegmentType.the-variants.{Pds, Ods, Pcs, Wds, End, Other}
+use Rattle.pgs_views.specs.declared.«segment_type».SegmentType.{SegmentType}
+use Rattle.pgs_views.specs.declared.«segment_type».SegmentType.the-variants.{Pds, Ods, Pcs, Wds, End, Other}
 use Rattle.pgs_set.specs.declared.grouping.Grouping.{Grouping}
 use Rattle.pgs_set.specs.declared.grouping.Grouping.the-variants.{Outside, Inside}
 

@@ -1,7 +1,7 @@
 // A card: what one line says of a display set (01, 'Bench samples').
-use pgs_base::fragment_flag::FragmentFlag;
 use pgs_segment::ods::Ods;
 use pgs_segment::segment::SegmentBody;
+use pgs_views::fragment_flag::FragmentFlag;
 ghost use mathlib.Core.Path.{_≡_};
 ghost use Prim.Native.Nat.{_+_, _<_, _^_};
 ghost use Rattle.pgs_cards.specs.Walks.{cardAfter, closes, noCard, opened};

@@ -2,7 +2,7 @@
 use crate::cards::CardsAnswer;
 use crate::cards::put_lines;
 use pgs_base::refusal::Refusal;
-use pgs_set::object::check_objects;
+use pgs_object::object::check_objects;
 use pgs_set::set::SetsAnswer;
 ghost use lib.ListN.{length};
 ghost use Rattle.pgs_base.specs.Outcome.{accepted, Delivered};

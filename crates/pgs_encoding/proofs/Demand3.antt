@@ -15,10 +15,10 @@ use Rattle.pgs_base.proofs.Digits.{bytes-drop, bytes-take}
 use Rattle.pgs_base.proofs.Outcomes.{is-accepted, first-accepts}
 use Rattle.pgs_segment.specs.Fields.{SegmentFields}
 use Rattle.pgs_segment.specs.OneSegment.{segmentVerdict, usedBy, fieldsOf}
-use Rattle.pgs_segment.specs.Stream.{Reading, stepVerdict, before, readFirst, readOf, streamFields, joined}
-use Rattle.pgs_segment.proofs.ReadingLaws.{Each, Whole, own-fields, pieces-whole}
+use Rattle.pgs_stream.specs.Stream.{Reading, stepVerdict, before, readFirst, readOf, streamFields, joined}
+use Rattle.pgs_stream.proofs.ReadingLaws.{Each, Whole, own-fields, pieces-whole}
 use Rattle.pgs_segment.proofs.RecordLaws.{first-fits, rest-fits}
-use Rattle.pgs_segment.proofs.StreamLaws.{read-on, read-stops, step-accepted}
+use Rattle.pgs_stream.proofs.StreamLaws.{read-on, read-stops, step-accepted}
 use Rattle.pgs_encoding.specs.Cut.{cutSegment, cutStream}
 use Rattle.pgs_encoding.specs.Demand3.{Accepted, SameFieldsSameCut, acceptedOf, begin, WritesOf, WritesOfAStream, WholeStream, BeginsThere}
 use Rattle.pgs_encoding.specs.Encode.{encode}

@@ -9,12 +9,12 @@ use lib.Dec.{leb, eqb, ltb}
 use lib.ListN.{length, take, drop, length-drop, take-append-drop}
 use lib.Seq.{take-add, take-length}
 use Rattle.pgs_base.specs.Bytes.{num, Bytes}
-use Rattle.pgs_base.specs.Fragments.{fragmentOf, isFirst}
+use Rattle.pgs_views.specs.Fragments.{fragmentOf, isFirst}
 use Rattle.pgs_base.specs.Outcome.{accepted, unless, pick}
 use Rattle.pgs_base.proofs.Digits.{bytes-drop}
 use Rattle.pgs_base.proofs.Outcomes.{second-holds, holds}
-use Rattle.pgs_base.specs.declared.«segment_type».SegmentType.{SegmentType}
-use Rattle.pgs_base.specs.declared.«segment_type».SegmentType.the-variants as kinds
+use Rattle.pgs_views.specs.declared.«segment_type».SegmentType.{SegmentType}
+use Rattle.pgs_views.specs.declared.«segment_type».SegmentType.the-variants as kinds
 use Rattle.pgs_segment.specs.Fields.{bodyVerdict, bodyOf}
 use Rattle.pgs_segment.specs.OdsBody.{odsOf, odsData, odsVerdict, flagOf, headSize}
 use Rattle.pgs_segment.specs.PcsBody.{pcsOf, placementOf, placementSize, placementCount, placementsOf, pcsVerdict}

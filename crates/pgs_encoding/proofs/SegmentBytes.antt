@@ -10,18 +10,18 @@ use lib.Dec.{leb, ltb, eqb}
 use lib.ListN.{length, take, drop, getD, length-append, length-drop, List·getD-eq-default, drop-of-length-le}
 use lib.Seq.{take-all, take-at, drop-at, length-take-le}
 use Rattle.pgs_base.specs.Bytes.{num, bytesOf, Bytes}
-use Rattle.pgs_base.specs.Kinds.{typeOf}
+use Rattle.pgs_views.specs.Kinds.{typeOf}
 use Rattle.pgs_base.specs.Outcome.{accepted, pick}
 use Rattle.pgs_base.proofs.Bytes.{num-byte}
 use Rattle.pgs_base.proofs.Digits.{bytes-drop, bytes-take}
-use Rattle.pgs_base.specs.declared.«segment_type».SegmentType.{SegmentType}
-use Rattle.pgs_base.specs.declared.«segment_type».SegmentType.the-variants as kinds
+use Rattle.pgs_views.specs.declared.«segment_type».SegmentType.{SegmentType}
+use Rattle.pgs_views.specs.declared.«segment_type».SegmentType.the-variants as kinds
 use Rattle.pgs_segment.specs.Fields.{BodyFields, SegmentFields, bodyVerdict, bodyOf, kindByte}
 use Rattle.pgs_segment.specs.Header.{ptsOf, dtsOf, kindOf, sizeOf, marked}
 use Rattle.pgs_segment.specs.OneSegment.{segmentType, usedBy, bodyAt, segmentVerdict, fieldsOf}
 use Rattle.pgs_segment.specs.PcsBody.{placementSize}
 use Rattle.pgs_segment.specs.Records.{recordsSize}
-use Rattle.pgs_segment.proofs.ReadingLaws.{Whole, kind-byte}
+use Rattle.pgs_stream.proofs.ReadingLaws.{Whole, kind-byte}
 use Rattle.pgs_segment.proofs.RecordLaws.{first-fits, rest-fits}
 use Rattle.pgs_segment.proofs.SegmentLaws.{has-header, accepted-head, accepted-size, accepted-body, accepted-mark}
 use Rattle.pgs_encoding.specs.Cut.{keptPlacement, keptPlacements, kept, cutSegment}

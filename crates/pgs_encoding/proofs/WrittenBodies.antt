@@ -9,12 +9,12 @@ use lib.Dec.{leb, eqb}
 use lib.ListN.{length, take, drop, getD, length-append, length-drop}
 use lib.Seq.{drop-at}
 use Rattle.pgs_base.specs.Bytes.{num}
-use Rattle.pgs_base.specs.Fragments.{fragmentOf, isFirst}
-use Rattle.pgs_base.specs.Kinds.{typeOf, rawOf}
+use Rattle.pgs_views.specs.Fragments.{fragmentOf, isFirst}
+use Rattle.pgs_views.specs.Kinds.{typeOf, rawOf}
 use Rattle.pgs_base.specs.Outcome.{accepted, pick}
-use Rattle.pgs_base.proofs.Views.{raw-type}
-use Rattle.pgs_base.specs.declared.«segment_type».SegmentType.{SegmentType}
-use Rattle.pgs_base.specs.declared.«segment_type».SegmentType.the-variants as kinds
+use Rattle.pgs_views.proofs.Views.{raw-type}
+use Rattle.pgs_views.specs.declared.«segment_type».SegmentType.{SegmentType}
+use Rattle.pgs_views.specs.declared.«segment_type».SegmentType.the-variants as kinds
 use Rattle.pgs_segment.specs.Fields.{BodyFields, pcs, wds, pds, ods, end, other, bodyVerdict, bodyOf, kindByte}
 use Rattle.pgs_segment.specs.OdsBody.{odsOf, odsData, odsVerdict, flagOf, headSize, dimensionsOf}
 use Rattle.pgs_segment.specs.PcsBody.{pcsOf, placementOf, placementSize, placementCount, placementsOf, pcsVerdict}

@@ -7,7 +7,7 @@ use lib.Dec.{eqb}
 use lib.ListN.{length, take, drop, getD}
 use Rattle.pgs_base.specs.Bytes.{bytesOf}
 use Rattle.pgs_base.specs.Outcome.{pick}
-use Rattle.pgs_segment.specs.Stream.{readOf, joined}
+use Rattle.pgs_stream.specs.Stream.{readOf, joined}
 
 -- the bytes of one placement: 8, 16 if its fourth byte is 40
 abbrev pub keptPlacement : List ℕ → ℕ

@@ -8,7 +8,7 @@ use lib.Dec.{leb}
 use lib.ListN.{length, take, drop, getD, replicate}
 use Rattle.pgs_base.specs.Bytes.{Bytes}
 use Rattle.pgs_base.specs.Outcome.{Verdict, accepted, refused, unless}
-use Rattle.pgs_segment.specs.Stream.{readOf, streamVerdict, streamFields, segmentCount, joined}
+use Rattle.pgs_stream.specs.Stream.{readOf, streamVerdict, streamFields, segmentCount, joined}
 use Rattle.pgs_encoding.specs.Cut.{cutSegment, cutStream}
 use Rattle.pgs_encoding.specs.Writes.{Written, run}
 

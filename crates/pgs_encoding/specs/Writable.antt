@@ -7,11 +7,11 @@ use mathlib.Core.Bool.{Bool, true, false, not}
 use mathlib.Core.List.{List, [], _∷_}
 use lib.Dec.{eqb}
 use lib.ListN.{length}
-use Rattle.pgs_base.specs.Fragments.{fragmentOf, isFirst}
-use Rattle.pgs_base.specs.Kinds.{typeOf}
+use Rattle.pgs_views.specs.Fragments.{fragmentOf, isFirst}
+use Rattle.pgs_views.specs.Kinds.{typeOf}
 use Rattle.pgs_base.specs.Outcome.{Verdict, unless, pick}
-use Rattle.pgs_base.specs.declared.«segment_type».SegmentType.{SegmentType}
-use Rattle.pgs_base.specs.declared.«segment_type».SegmentType.the-variants as kinds
+use Rattle.pgs_views.specs.declared.«segment_type».SegmentType.{SegmentType}
+use Rattle.pgs_views.specs.declared.«segment_type».SegmentType.the-variants as kinds
 use Rattle.pgs_segment.specs.Fields.{BodyFields, pcs, wds, pds, ods, end, other, SegmentFields, kindByte}
 use Rattle.pgs_segment.specs.declared.ods.Dimensions.{Dimensions}
 use Rattle.pgs_segment.specs.declared.ods.Dimensions.the-variants.{Absent, Present}

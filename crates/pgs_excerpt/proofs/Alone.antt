@@ -11,13 +11,12 @@ use lib.Seq.{take-append-add, drop-at, drop-drop}
 use Rattle.pgs_base.specs.Outcome.{accepted}
 use Rattle.pgs_base.proofs.Outcomes.{first-accepts, second-holds, holds}
 use Rattle.pgs_segment.specs.OneSegment.{segmentType}
-use Rattle.pgs_segment.specs.Stream.{Reading, readOf, streamVerdict, joined}
-use Rattle.pgs_segment.proofs.ReadingLaws.{Each, Whole, pieces-whole, pieces-joined, accepted-rest}
-use Rattle.pgs_base.specs.declared.«segment_type».SegmentType.the-variants.{Pcs}
+use Rattle.pgs_stream.specs.Stream.{Reading, readOf, streamVerdict, joined}
+use Rattle.pgs_stream.proofs.ReadingLaws.{Each, Whole, pieces-whole, pieces-joined, accepted-rest}
+use Rattle.pgs_views.specs.declared.«segment_type».SegmentType.the-variants.{Pcs}
 use Rattle.pgs_set.specs.declared.grouping.Grouping.{Grouping}
 use Rattle.pgs_set.specs.declared.grouping.Grouping.the-variants.{Outside, Inside}
-use Rattle.pgs_set.specs.Objects.{noSet, setNumber, setVerdict}
-use Rattle.pgs_set.specs.Sets.{DisplaySet, kindVerdict, stateAfter, groupVerdict, isEnd, throughEnd, setsFrom, setsOf, setCount, setsVerdict, bytesIn}
+use Rattle.pgs_set.specs.Sets.{noSet, setNumber, setVerdict, DisplaySet, kindVerdict, stateAfter, groupVerdict, isEnd, throughEnd, setsFrom, setsOf, setCount, setsVerdict, bytesIn}
 use Rattle.pgs_set.proofs.SetLaws.{goes-on, closes, no-pcs, only-pcs}
 use Rattle.pgs_excerpt.specs.Excerpt.{sizeIn, excerpt, atStart, Alone}
 use Rattle.pgs_excerpt.proofs.ReadBack.{read-back}

@@ -8,16 +8,16 @@ use borrow.Author.Tests.{le-leb}
 use lib.ListN.{length, take, drop, length-append, length-drop, List·getD-append}
 use lib.Seq.{take-at, drop-at, take-append-le, drop-append-le}
 use Rattle.pgs_base.specs.Bytes.{num}
-use Rattle.pgs_base.specs.Kinds.{typeOf}
+use Rattle.pgs_views.specs.Kinds.{typeOf}
 use Rattle.pgs_base.specs.Outcome.{accepted}
 use Rattle.pgs_base.proofs.Bytes.{num-append}
 use Rattle.pgs_segment.specs.Fields.{bodyVerdict}
 use Rattle.pgs_segment.specs.Header.{marked, sizeOf}
 use Rattle.pgs_segment.specs.OneSegment.{segmentType, usedBy, bodyAt, segmentVerdict}
-use Rattle.pgs_segment.specs.Stream.{before, readOf, joined}
-use Rattle.pgs_segment.proofs.ReadingLaws.{Each, Whole}
+use Rattle.pgs_stream.specs.Stream.{before, readOf, joined}
+use Rattle.pgs_stream.proofs.ReadingLaws.{Each, Whole}
 use Rattle.pgs_segment.proofs.SegmentLaws.{has-header, accepted-head, accepted-body, accepted-mark}
-use Rattle.pgs_segment.proofs.StreamLaws.{read-on, read-stops, step-accepted}
+use Rattle.pgs_stream.proofs.StreamLaws.{read-on, read-stops, step-accepted}
 
 -- a whole segment before other bytes
 module _ (x r : List ℕ) (w : Whole x) where

@@ -9,9 +9,9 @@ use Rattle.pgs_base.specs.Outcome.{Verdict, Outcome, andThen, needing, isAccept
 use Rattle.pgs_bitmap.specs.Bitmap.{readingOf, bitmapOf}
 use Rattle.pgs_color.specs.Palette.{Conversion}
 use Rattle.pgs_plane.specs.Placing.{imageOf}
-use Rattle.pgs_set.specs.Objects.{Fragment, Chain, objectId, widthOf, heightOf, setNumber, noSet, objectsOf, objectsVerdict}
-use Rattle.pgs_set.specs.Reassembly.{anyMore, joinedData}
-use Rattle.pgs_set.specs.Sets.{DisplaySet}
+use Rattle.pgs_object.specs.Objects.{Fragment, Chain, objectId, widthOf, heightOf, objectsOf, objectsVerdict}
+use Rattle.pgs_set.specs.Sets.{setNumber, noSet, DisplaySet}
+use Rattle.pgs_object.specs.Reassembly.{anyMore, joinedData}
 use Rattle.pgs_render.specs.Images.{lookIn, bitmapsOf, areaOf, bitmapsVerdict, hasObject, placementsVerdict}
 use Rattle.pgs_render.specs.Rendering.{compositionOf, colorsIn, pictureOf, placementsIn, renderVerdict, earlyVerdict, contentVerdict, leftBy, answerOf, Rendered}
 use Rattle.pgs_excerpt.specs.Excerpt.{excerpt, atStart, movedFragment, moved, SamePainting}

@@ -7,8 +7,8 @@ use lib.ListN.{length, take, drop}
 use Rattle.pgs_base.specs.Outcome.{Outcome, accepted}
 use Rattle.pgs_color.specs.Palette.{Conversion}
 use Rattle.pgs_render.specs.Rendering.{Rendered}
-use Rattle.pgs_set.specs.Objects.{Fragment, Chain, setNumber, setVerdict, objectsOf, objectsVerdict}
-use Rattle.pgs_set.specs.Sets.{DisplaySet, bytesIn, setsOf, setsVerdict}
+use Rattle.pgs_object.specs.Objects.{Fragment, Chain, objectsOf, objectsVerdict}
+use Rattle.pgs_set.specs.Sets.{setNumber, setVerdict, DisplaySet, bytesIn, setsOf, setsVerdict}
 
 -- how many bytes a set takes
 abbrev pub sizeIn : DisplaySet → ℕ

@@ -17,8 +17,8 @@ use Rattle.pgs_segment.specs.Header.{sizeOf}
 use Rattle.pgs_segment.specs.OneSegment.{segmentType, usedBy, bodyAt}
 use Rattle.pgs_segment.specs.PdsBody as pds
 use Rattle.pgs_segment.specs.Records.{records}
-use Rattle.pgs_segment.specs.Stream.{stepVerdict, readFirst, readOf}
-use Rattle.pgs_segment.proofs.ReadingLaws.{Each}
+use Rattle.pgs_stream.specs.Stream.{stepVerdict, readFirst, readOf}
+use Rattle.pgs_stream.proofs.ReadingLaws.{Each}
 use Rattle.pgs_set.specs.Sets.{isEnd, throughEnd}
 use Rattle.pgs_set.specs.Walks.{piecesAt}
 use Rattle.pgs_render.specs.Palettes.{isPds, entriesIn, entriesNamed, entriesAmong}

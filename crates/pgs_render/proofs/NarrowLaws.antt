@@ -6,17 +6,17 @@ use Prim.Native.Nat.{ℕ, zero, suc, _+_, _<_}
 use native.Mathlib.Omega.{arith}
 use lib.ListN.{length, take, drop}
 use Rattle.pgs_base.specs.Bytes.{big, num, Bytes}
-use Rattle.pgs_base.specs.Fragments.{fragmentOf, isFirst}
+use Rattle.pgs_views.specs.Fragments.{fragmentOf, isFirst}
 use Rattle.pgs_base.specs.Outcome.{pick}
 use Rattle.pgs_base.proofs.Digits.{bytes-take, bytes-drop}
 use Rattle.pgs_segment.specs.Header.{sizeOf}
 use Rattle.pgs_segment.specs.OdsBody.{flagOf}
 use Rattle.pgs_segment.specs.OneSegment.{bodyAt}
 use Rattle.pgs_segment.specs.declared.ods.Dimensions.the-variants.{Absent, Present}
-use Rattle.pgs_set.specs.Objects.{Fragment, Chain, widthIn, heightIn, widthOf, heightOf, objectsOf}
-use Rattle.pgs_set.specs.Reassembly.{copiedData, rowsFrom, objectRows}
-use Rattle.pgs_set.proofs.ObjectLaws.{Begins, AllBegin}
-use Rattle.pgs_set.proofs.ViewLaws.{objects-begin}
+use Rattle.pgs_object.specs.Objects.{Fragment, Chain, widthIn, heightIn, widthOf, heightOf, objectsOf}
+use Rattle.pgs_object.specs.Reassembly.{copiedData, rowsFrom, objectRows}
+use Rattle.pgs_object.proofs.ObjectLaws.{Begins, AllBegin}
+use Rattle.pgs_object.proofs.ViewLaws.{objects-begin}
 use Rattle.pgs_render.specs.Rows.{Narrow}
 
 num-two : (at : ℕ) (l : List ℕ) → Bytes l → num 2 at l < 65536

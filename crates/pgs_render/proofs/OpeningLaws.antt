@@ -10,27 +10,27 @@ use lib.ListN.{length, take, drop, length-append, length-map}
 use lib.Seq.{take-at}
 use Rattle.pgs_base.specs.Bytes.{Bytes}
 use Rattle.pgs_base.specs.Outcome.{Verdict, accepted, refused, Outcome, gives, refuses, outcomeOf, andThen, unless, needing, laid, delivery, Delivered}
-use Rattle.pgs_base.specs.declared.«segment_type».SegmentType.{SegmentType}
-use Rattle.pgs_base.specs.declared.«segment_type».SegmentType.the-variants.{Pds, Ods, Pcs, Wds, End, Other}
+use Rattle.pgs_views.specs.declared.«segment_type».SegmentType.{SegmentType}
+use Rattle.pgs_views.specs.declared.«segment_type».SegmentType.the-variants.{Pds, Ods, Pcs, Wds, End, Other}
 use Rattle.pgs_base.proofs.Outcomes.{gave, gave-value, turned-down, first-accepts, second-holds, delivered, delivered-value, delivered-refusal}
 use Rattle.pgs_color.specs.Bytes.{rgbOf}
 use Rattle.pgs_segment.specs.Fields.{bodyVerdict}
 use Rattle.pgs_segment.specs.Header.{ptsOf, headerFields, headerOf}
 use Rattle.pgs_segment.specs.OneSegment.{segmentType, segmentVerdict, usedBy, bodyAt}
 use Rattle.pgs_segment.specs.PcsBody.{placementOf, placementSize, placementRow, placementCount, placementsOf, placementRows, pcsOf, pcsVerdict}
-use Rattle.pgs_segment.specs.Stream.{stepVerdict}
+use Rattle.pgs_stream.specs.Stream.{stepVerdict}
 use Rattle.pgs_segment.specs.declared.header.SegmentHeader.{SegmentHeader}
 use Rattle.pgs_segment.specs.declared.pcs.Pcs as composition
-use Rattle.pgs_segment.proofs.ReadingLaws.{own-body}
+use Rattle.pgs_stream.proofs.ReadingLaws.{own-body}
 use Rattle.pgs_segment.proofs.RecordLaws.{records-length}
 use Rattle.pgs_segment.proofs.SegmentLaws.{accepted-body}
-use Rattle.pgs_set.specs.Objects.{Chain, objectsOf, objectsVerdict, objectLimit, fragmentsOf, fragmentsVerdict, setNumber, setVerdict}
-use Rattle.pgs_set.specs.Reassembly.{copiedData, rowsFrom, objectRows}
-use Rattle.pgs_set.specs.Sets.{DisplaySet, kindVerdict, throughEnd, setsVerdict, setCount, setRow}
+use Rattle.pgs_object.specs.Objects.{Chain, objectsOf, objectsVerdict, objectLimit, fragmentsOf, fragmentsVerdict}
+use Rattle.pgs_set.specs.Sets.{setNumber, setVerdict, DisplaySet, kindVerdict, throughEnd, setsVerdict, setCount, setRow}
+use Rattle.pgs_object.specs.Reassembly.{copiedData, rowsFrom, objectRows}
 use Rattle.pgs_set.specs.Walks.{SetStands, FoundSet, piecesAt, setAt}
 use Rattle.pgs_set.specs.declared.grouping.Grouping.the-variants.{Outside}
-use Rattle.pgs_set.proofs.FragmentLaws.{lent-body}
-use Rattle.pgs_set.proofs.ObjectLaws.{stands-here, stands-open}
+use Rattle.pgs_object.proofs.FragmentLaws.{lent-body}
+use Rattle.pgs_set.proofs.NumberLaws.{stands-here, stands-open}
 use Rattle.pgs_set.proofs.SetLaws.{size-read, set-here, read-within}
 use Rattle.pgs_set.proofs.WalkLaws.{kind-accepted}
 use Rattle.pgs_render.specs.Rendering.{compositionOf, placementsIn, roomVerdict, answerOf, Rendered}

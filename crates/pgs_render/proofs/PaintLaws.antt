@@ -18,7 +18,7 @@ use Rattle.pgs_segment.specs.declared.pcs.CompositionObjectCrop.{CompositionObj
 use Rattle.pgs_segment.specs.declared.pcs.Cropping.{Cropping}
 use Rattle.pgs_segment.specs.declared.pcs.Cropping.the-variants.{Uncropped, Cropped}
 use Rattle.pgs_segment.specs.declared.pcs.CompositionObject.{CompositionObject}
-use Rattle.pgs_set.proofs.Lists.{drop-next}
+use Rattle.pgs_object.proofs.Lists.{drop-next}
 use Rattle.pgs_render.specs.Rows.{rowArea, rowsArea, bitmapAt, imageAt, lookAt, croppingIn, placementIn}
 use Rattle.pgs_render.specs.declared.painting.Bitmap.{Bitmap}
 

@@ -9,10 +9,10 @@ use borrow.Author.Tests.{le-leb, eq-eqb}
 use lib.ListN.{length, take, drop, getD, length-drop}
 use lib.Seq.{drop-drop, getD-drop}
 use Rattle.pgs_base.specs.Bytes.{num}
-use Rattle.pgs_base.specs.Kinds.{typeOf}
+use Rattle.pgs_views.specs.Kinds.{typeOf}
 use Rattle.pgs_base.specs.Outcome.{Verdict, accepted, refused, Outcome, gives, refuses, outcomeOf, pick}
-use Rattle.pgs_base.specs.declared.«segment_type».SegmentType.{SegmentType}
-use Rattle.pgs_base.specs.declared.«segment_type».SegmentType.the-variants.{Pds, Ods, Pcs, Wds, End, Other}
+use Rattle.pgs_views.specs.declared.«segment_type».SegmentType.{SegmentType}
+use Rattle.pgs_views.specs.declared.«segment_type».SegmentType.the-variants.{Pds, Ods, Pcs, Wds, End, Other}
 use Rattle.pgs_base.proofs.Bytes.{num-byte}
 use Rattle.pgs_base.proofs.Outcomes.{first-accepts, gave-value, turned-down}
 use Rattle.pgs_base.proofs.Lists.{to-end}
@@ -21,9 +21,9 @@ use Rattle.pgs_segment.specs.Header.{headerVerdict, headerFields, headerOf}
 use Rattle.pgs_segment.specs.OneSegment.{segmentType, segmentVerdict, usedBy, bodyAt}
 use Rattle.pgs_segment.specs.PdsBody as pds
 use Rattle.pgs_segment.specs.Records.{records}
-use Rattle.pgs_segment.specs.Stream.{stepVerdict}
+use Rattle.pgs_stream.specs.Stream.{stepVerdict}
 use Rattle.pgs_segment.specs.declared.header.SegmentHeader.{SegmentHeader}
-use Rattle.pgs_segment.proofs.ReadingLaws.{own-body}
+use Rattle.pgs_stream.proofs.ReadingLaws.{own-body}
 use Rattle.pgs_segment.proofs.SegmentLaws.{accepted-body}
 use Rattle.pgs_color.specs.Bytes.{rgbOf}
 use Rattle.pgs_color.specs.Palette.{Entry, entryOf, applying}
@@ -32,7 +32,7 @@ use Rattle.pgs_color.proofs.Laying.{laid-none, laid-length, laid-append, laid-n
 use Rattle.pgs_set.specs.Sets.{isEnd, throughEnd}
 use Rattle.pgs_set.specs.Walks.{InSet, piecesAt}
 use Rattle.pgs_set.proofs.SetLaws.{kind-read, size-read, inside-more, inside-here, inside-on}
-use Rattle.pgs_set.proofs.FragmentLaws.{lent-body}
+use Rattle.pgs_object.proofs.FragmentLaws.{lent-body}
 use Rattle.pgs_set.proofs.WalkLaws.{step-header, pieces-here, type-of-piece, within-here}
 use Rattle.pgs_render.specs.Palettes.{isPds, entriesIn, entriesNamed, entriesAmong}
 

@@ -27,11 +27,11 @@ use Rattle.pgs_plane.proofs.StripLaws.{strip-length}
 use Rattle.pgs_segment.specs.PcsBody.{placementRow}
 use Rattle.pgs_segment.specs.declared.pcs.CompositionObject.{CompositionObject}
 use Rattle.pgs_segment.specs.declared.pcs.Pcs.{Pcs}
-use Rattle.pgs_set.specs.Objects.{Chain, dataOf, widthOf, heightOf, objectsOf, objectsVerdict, setNumber}
-use Rattle.pgs_set.specs.Reassembly.{joinedData, objectRows, shownBy}
-use Rattle.pgs_set.specs.Sets.{DisplaySet, throughEnd}
+use Rattle.pgs_object.specs.Objects.{Chain, dataOf, widthOf, heightOf, objectsOf, objectsVerdict}
+use Rattle.pgs_set.specs.Sets.{setNumber, DisplaySet, throughEnd}
+use Rattle.pgs_object.specs.Reassembly.{joinedData, objectRows, shownBy}
 use Rattle.pgs_set.specs.Walks.{piecesAt}
-use Rattle.pgs_set.proofs.ViewLaws.{shown-data}
+use Rattle.pgs_object.proofs.ViewLaws.{shown-data}
 use Rattle.pgs_render.specs.Images.{lookIn, bitmapsOf, areaOf, bitmapsVerdict, placementsVerdict}
 use Rattle.pgs_render.specs.Palettes.{entriesAmong, colorShown}
 use Rattle.pgs_render.specs.Rendering.{compositionOf, placementsIn, colorsIn, pictureOf, roomVerdict, earlyVerdict, contentVerdict, renderVerdict, leftBy, answerOf, Rendered}

@@ -12,9 +12,9 @@ use Rattle.pgs_base.proofs.Decisions.{leb-same}
 use Rattle.pgs_bitmap.specs.Bitmap.{readingOf}
 use Rattle.pgs_segment.specs.PcsBody.{placementRow}
 use Rattle.pgs_segment.specs.declared.pcs.CompositionObject.{CompositionObject}
-use Rattle.pgs_set.specs.Objects.{Chain, objectId, widthOf, heightOf, dataOf}
-use Rattle.pgs_set.specs.Reassembly.{copied, copiedData, joinedData, objectRow, rowsFrom, shownBy}
-use Rattle.pgs_set.proofs.Lists.{drop-next}
+use Rattle.pgs_object.specs.Objects.{Chain, objectId, widthOf, heightOf, dataOf}
+use Rattle.pgs_object.specs.Reassembly.{copied, copiedData, joinedData, objectRow, rowsFrom, shownBy}
+use Rattle.pgs_object.proofs.Lists.{drop-next}
 use Rattle.pgs_render.specs.Images.{areaOf, bitmapsVerdict, hasObject, placementsVerdict}
 use Rattle.pgs_render.specs.Rows.{rowArea, rowJoined, rowsJoined, rowsNeed, rowsReading, hasRow, allPresent}
 

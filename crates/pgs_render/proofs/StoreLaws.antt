@@ -14,11 +14,11 @@ use Rattle.pgs_bitmap.specs.Decoding.{decodeVerdict, Decoding}
 use Rattle.pgs_bitmap.specs.declared.bitmap.Decoded.{Decoded}
 use Rattle.pgs_bitmap.proofs.BitmapArea.{bitmap-area}
 use Rattle.pgs_bitmap_within.specs.Within.{partAt, putAt, changed, withinVerdict, DecodingWithin}
-use Rattle.pgs_set.specs.Reassembly.{partOf, shownBy}
+use Rattle.pgs_object.specs.Reassembly.{partOf, shownBy}
 use Rattle.pgs_base.proofs.Lists.{drop-take}
 use Rattle.pgs_base.proofs.Outcomes.{first-accepts, second-holds}
-use Rattle.pgs_set.proofs.Lists.{drop-next}
-use Rattle.pgs_set.proofs.ViewLaws.{part-whole, shows-scratch}
+use Rattle.pgs_object.proofs.Lists.{drop-next}
+use Rattle.pgs_object.proofs.ViewLaws.{part-whole, shows-scratch}
 use Rattle.pgs_render.specs.Rows.{rowArea, rowsArea, rowsReading, rowsBitmaps, Held, Storable, AllStorable}
 use Rattle.pgs_render.proofs.PaintLaws.{lent-part}
 

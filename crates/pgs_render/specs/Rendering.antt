@@ -15,8 +15,8 @@ use Rattle.pgs_segment.specs.OneSegment.{bodyAt}
 use Rattle.pgs_segment.specs.PcsBody.{pcsOf, placementsOf}
 use Rattle.pgs_segment.specs.declared.pcs.CompositionObject.{CompositionObject}
 use Rattle.pgs_segment.specs.declared.pcs.Pcs.{Pcs}
-use Rattle.pgs_set.specs.Objects.{Chain}
-use Rattle.pgs_set.specs.Reassembly.{joinedData}
+use Rattle.pgs_object.specs.Objects.{Chain}
+use Rattle.pgs_object.specs.Reassembly.{joinedData}
 use Rattle.pgs_set.specs.Sets.{DisplaySet}
 use Rattle.pgs_render.specs.Images.{lookIn, bitmapsOf, areaOf, bitmapsVerdict, hasObject, placementsVerdict}
 use Rattle.pgs_render.specs.Palettes.{entriesAmong, colorShown}

@@ -9,9 +9,9 @@ use Rattle.pgs_segment.specs.Header.{ptsOf}
 use Rattle.pgs_segment.specs.OneSegment.{bodyAt}
 use Rattle.pgs_segment.specs.PcsBody.{pcsVerdict, placementRow}
 use Rattle.pgs_segment.specs.declared.pcs.Pcs.{Pcs}
-use Rattle.pgs_set.specs.Objects.{objectsOf, objectsVerdict, setNumber}
-use Rattle.pgs_set.specs.Reassembly.{joinedData, objectRows}
-use Rattle.pgs_set.specs.Sets.{throughEnd}
+use Rattle.pgs_object.specs.Objects.{objectsOf, objectsVerdict}
+use Rattle.pgs_set.specs.Sets.{setNumber, throughEnd}
+use Rattle.pgs_object.specs.Reassembly.{joinedData, objectRows}
 use Rattle.pgs_set.specs.Walks.{InSet, piecesAt}
 use Rattle.pgs_render.specs.Images.{lookIn, areaOf}
 use Rattle.pgs_render.specs.Rendering.{compositionOf, placementsIn, colorsIn, pictureOf, contentVerdict, leftBy}

@@ -2,7 +2,7 @@
 use pgs_base::refusal::Refusal;
 use pgs_bitmap::bitmap::Decoded;
 use pgs_bitmap::bitmap::check_rle;
-use pgs_set::object::object_data;
+use pgs_object_view::view::object_data;
 ghost use mathlib.Core.Path.{_≡_};
 ghost use Prim.Native.Nat.{_<_, _^_};
 ghost use lib.Dec.{leb};

@@ -1,9 +1,9 @@
 // The palette of a display set, as a table of colours: 01, 'Plane'.
-use pgs_base::segment_type::SegmentType;
 use pgs_color::palette::apply;
 use pgs_color::palette::clear;
 use pgs_segment::header::HeaderAnswer;
 use pgs_segment::header::SegmentHeader;
+use pgs_views::segment_type::SegmentType;
 ghost use mathlib.Core.Path.{_≡_};
 ghost use mathlib.Core.List.{_∷_, []};
 ghost use Prim.Native.Nat.{_+_, _≤_};

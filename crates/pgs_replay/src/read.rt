@@ -9,6 +9,8 @@ use pgs_cells::pcs::pcs_cells;
 use pgs_color::palette::Looked;
 use pgs_color::palette::Updated;
 use pgs_color::ycbcr::ycbcr709_to_rgb;
+use pgs_object::object::ObjectsAnswer;
+use pgs_object::object::reassemble_objects;
 use pgs_render::render::RenderAnswer;
 use pgs_render::render::render;
 use pgs_segment::ods::Ods;
@@ -17,14 +19,12 @@ use pgs_segment::pcs::Pcs;
 use pgs_segment::pcs::PcsAnswer;
 use pgs_segment::pds::Pds;
 use pgs_segment::pds::PdsAnswer;
-use pgs_segment::stream::StreamAnswer;
-use pgs_segment::stream::parse_segments;
 use pgs_segment::wds::Wds;
 use pgs_segment::wds::WdsAnswer;
-use pgs_set::object::ObjectsAnswer;
-use pgs_set::object::reassemble_objects;
 use pgs_set::set::SetsAnswer;
 use pgs_set::set::parse_display_sets;
+use pgs_stream::stream::StreamAnswer;
+use pgs_stream::stream::parse_segments;
 
 fn print_segments(answer: StreamAnswer) {
     print::text(b"segments");

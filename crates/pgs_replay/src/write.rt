@@ -10,12 +10,12 @@ use pgs_cells::pds::pds_from;
 use pgs_stream_writer::stream::WritesAnswer;
 use pgs_stream_writer::stream::write_segments;
 use pgs_writer::end::encode_end;
-use pgs_writer::head::WriteAnswer;
 use pgs_writer::ods::encode_ods;
 use pgs_writer::other::encode_other;
-use pgs_writer::pcs::encode_pcs;
-use pgs_writer::pds::encode_pds;
-use pgs_writer::wds::encode_wds;
+use pgs_writer_base::head::WriteAnswer;
+use pgs_writer_lists::pds::encode_pds;
+use pgs_writer_lists::wds::encode_wds;
+use pgs_writer_pcs::pcs::encode_pcs;
 
 fn print_writes(answer: WritesAnswer) {
     print::text(b"writes");

@@ -4,9 +4,9 @@ use mathlib.Core.List.{map}
 use lib.Ieee.{le, add, sub, mul, ofInt, div, toUnsigned}
 use Rattle.pgs_base.specs.Bytes.{num}
 use Rattle.pgs_bitmap.specs.RunLength.{codesOf}
-use Rattle.pgs_segment.specs.Stream.{readOf}
+use Rattle.pgs_stream.specs.Stream.{readOf}
 use Rattle.pgs_set.specs.Sets.{setsOf}
-use Rattle.pgs_set.specs.Objects.{objectsOf}
+use Rattle.pgs_object.specs.Objects.{objectsOf}
 use Rattle.pgs_samples.specs.Samples.{Sample, answerOf, starred}
 
 pub right : map (λ (s : Sample). answerOf (s .question)) starred ≡ map (λ (s : Sample). s .answer) starred

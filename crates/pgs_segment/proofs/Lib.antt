@@ -2,8 +2,6 @@ pub mod HeaderLaws
 pub mod OdsLaws
 pub mod PcsLaws
 pub mod PdsLaws
-pub mod ReadingLaws
 pub mod RecordLaws
 pub mod SegmentLaws
-pub mod StreamLaws
 pub mod WdsLaws

@@ -10,7 +10,7 @@ use lib.ListN.{length}
 use Rattle.pgs_base.specs.Bytes.{num}
 use Rattle.pgs_base.specs.Outcome.{gives, refuses, accepted, outcomeOf, unless}
 use Rattle.pgs_base.proofs.Outcomes.{first-holds, second-holds, holds}
-use Rattle.pgs_base.specs.Fragments.{fragmentOf, isFirst}
+use Rattle.pgs_views.specs.Fragments.{fragmentOf, isFirst}
 use Rattle.pgs_segment.specs.OdsBody.{flagOf, headSize, dimensionsOf, odsVerdict, odsList}
 use Rattle.pgs_segment.specs.declared.ods.Dimensions.the-variants.{Absent, Present}
 

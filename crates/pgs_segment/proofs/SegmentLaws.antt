@@ -11,9 +11,9 @@ use Rattle.pgs_base.specs.Outcome.{Verdict, Outcome, refuses, accepted, refused
 use Rattle.pgs_base.proofs.Outcomes.{first-holds, second-holds, first-accepts, holds}
 use Rattle.pgs_segment.specs.Fields.{bodyVerdict, bodyList, bodyOf, numbersOf}
 use Rattle.pgs_segment.specs.Header.{kindOf, sizeOf, marked, headerVerdict, headerFields}
-use Rattle.pgs_base.specs.Kinds.{typeOf}
+use Rattle.pgs_views.specs.Kinds.{typeOf}
 use Rattle.pgs_segment.specs.OneSegment.{segmentType, usedBy, bodyAt, segmentVerdict, frameOf}
-use Rattle.pgs_base.specs.declared.«segment_type».SegmentType.{SegmentType}
+use Rattle.pgs_views.specs.declared.«segment_type».SegmentType.{SegmentType}
 use Rattle.pgs_segment.specs.declared.segment.BodyList.{BodyList}
 use Rattle.pgs_segment.specs.declared.segment.SegmentBody.{SegmentBody}
 

@@ -5,15 +5,15 @@ use Prim.Native.Nat.{ℕ}
 use mathlib.Core.List.{List}
 use lib.ListN.{length, take, drop}
 use lib.Dec.{eqb}
-use Rattle.pgs_base.specs.Kinds.{rawOf}
+use Rattle.pgs_views.specs.Kinds.{rawOf}
 use Rattle.pgs_base.specs.Outcome.{Verdict, accepted, Outcome, gives, refuses, unless}
 use Rattle.pgs_base.specs.Refusals.{numberOf}
 use Rattle.pgs_segment.specs.OdsBody.{odsOf, odsData, odsVerdict, odsList}
 use Rattle.pgs_segment.specs.PcsBody.{pcsOf, placementsOf, pcsVerdict, pcsList}
 use Rattle.pgs_segment.specs.PdsBody.{pdsOf, entriesOf, pdsVerdict, pdsList}
 use Rattle.pgs_segment.specs.WdsBody.{windowsOf, wdsVerdict, wdsList}
-use Rattle.pgs_base.specs.declared.«segment_type».SegmentType.{SegmentType}
-use Rattle.pgs_base.specs.declared.«segment_type».SegmentType.the-variants as kinds
+use Rattle.pgs_views.specs.declared.«segment_type».SegmentType.{SegmentType}
+use Rattle.pgs_views.specs.declared.«segment_type».SegmentType.the-variants as kinds
 use Rattle.pgs_segment.specs.declared.ods.Ods.{Ods}
 use Rattle.pgs_segment.specs.declared.pcs.CompositionObject.{CompositionObject}
 use Rattle.pgs_segment.specs.declared.pcs.Pcs.{Pcs}

@@ -6,5 +6,4 @@ pub mod OneSegment
 pub mod PcsBody
 pub mod PdsBody
 pub mod Records
-pub mod Stream
 pub mod WdsBody

@@ -7,7 +7,7 @@ use mathlib.Core.List.{List}
 use lib.ListN.{length, drop}
 use lib.Dec.{leb, eqb}
 use Rattle.pgs_base.specs.Bytes.{num}
-use Rattle.pgs_base.specs.Fragments.{fragmentOf, isFirst}
+use Rattle.pgs_views.specs.Fragments.{fragmentOf, isFirst}
 use Rattle.pgs_base.specs.Outcome.{Verdict, Outcome, gives, refuses, andThen, unless, pick}
 use Rattle.pgs_base.specs.Refusals.{numberOf}
 use Rattle.pgs_segment.specs.declared.segment.BodyList.{BodyList}

@@ -9,7 +9,7 @@ use crate::pds::Pds;
 use crate::pds::check_pds;
 use crate::wds::check_wds;
 use pgs_base::refusal::Refusal;
-use pgs_base::segment_type::SegmentType;
+use pgs_views::segment_type::SegmentType;
 ghost use mathlib.Core.Path.{_≡_};
 ghost use Rattle.pgs_base.specs.Outcome.{accepted, outcomeOf};
 ghost use Rattle.pgs_segment.specs.Checks.{checkedOutcome};
@@ -54,12 +54,12 @@ pub enum BodyAnswer {
 }
 
 // A head, and where the list of the body stands that follows it.
-pub(crate) struct Frame {
+pub struct Frame {
     pub header: SegmentHeader,
     pub list: BodyList,
 }
 
-pub(crate) enum FrameAnswer {
+pub enum FrameAnswer {
     Framed(Frame),
     Refused(Refusal),
 }
@@ -136,7 +136,7 @@ impl SegmentBody {
 }
 
 // Tests the segment at the front of `buf`.
-pub(crate) fn check_segment(buf: &[u8]) -> FrameAnswer
+pub fn check_segment(buf: &[u8]) -> FrameAnswer
     ensures { λ r. ⌜ frameOutcome r ≡ outcomeOf (segmentVerdict (now (buf .entry))) (frameOf (now (buf .entry))) ⌝ }
 {
     match SegmentHeader::parse(buf) {

@@ -13,11 +13,11 @@ use Rattle.pgs_base.specs.declared.refusal.Refusal.{Refusal}
 use Rattle.pgs_base.specs.declared.refusal.Refusal.the-variants.{BufferTooSmall}
 use Rattle.pgs_segment.specs.Header.{headerVerdict, headerFields, headerOf}
 use Rattle.pgs_segment.specs.declared.header.SegmentHeader.{SegmentHeader}
-use Rattle.pgs_segment.specs.declared.stream.StreamAnswer.the-variants.{Segments, Refused}
+use Rattle.pgs_stream.specs.declared.stream.StreamAnswer.the-variants.{Segments, Refused}
 use Rattle.pgs_segment.specs.OneSegment.{usedBy, segmentVerdict}
-use Rattle.pgs_segment.specs.Stream.{segmentCount, segmentRow, segmentRows, streamVerdict, streamOutcome}
+use Rattle.pgs_stream.specs.Stream.{segmentCount, segmentRow, segmentRows, streamVerdict, streamOutcome}
 use Rattle.pgs_segment.proofs.SegmentLaws.{accepted-head}
-use Rattle.pgs_segment.proofs.StreamLaws.{Storing, storing, next-accepted, next-within, stores-on, stored-segments, segment-rows}
+use Rattle.pgs_stream.proofs.StreamLaws.{Storing, storing, next-accepted, next-within, stores-on, stored-segments, segment-rows}
 use Rattle.pgs_segment_list.specs.Segments.{recordOf, segmentRecords, planVerdict, storedBy, Planned, Recorded}
 use Rattle.pgs_segment_list.specs.declared.Plan.{Plan}
 use Rattle.pgs_segment_list.specs.declared.SegmentRecord.{SegmentRecord}

@@ -6,7 +6,7 @@ use mathlib.Core.List.{List, [], _∷_, map}
 use lib.ListN.{getD}
 use Rattle.pgs_base.specs.Outcome.{Verdict, accepted, refused, outcomeOf, andThen, needing}
 use Rattle.pgs_segment.specs.OneSegment.{usedBy}
-use Rattle.pgs_segment.specs.Stream.{segmentCount, segmentRow, segmentRows, streamVerdict, streamOutcome}
+use Rattle.pgs_stream.specs.Stream.{segmentCount, segmentRow, segmentRows, streamVerdict, streamOutcome}
 use Rattle.pgs_segment_list.specs.declared.Placed.{Placed}
 use Rattle.pgs_segment_list.specs.declared.Plan.{Plan}
 use Rattle.pgs_segment_list.specs.declared.SegmentRecord.{SegmentRecord}

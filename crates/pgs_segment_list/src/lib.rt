@@ -4,15 +4,15 @@
 use pgs_base::refusal::Refusal;
 use pgs_segment::header::HeaderAnswer;
 use pgs_segment::header::SegmentHeader;
-use pgs_segment::stream::StreamAnswer;
-use pgs_segment::stream::count_segments;
+use pgs_stream::stream::StreamAnswer;
+use pgs_stream::stream::count_segments;
 ghost use mathlib.Core.Path.{_≡_};
 ghost use Prim.Native.Nat.{_+_, _≤_};
 ghost use lib.ListN.{length, drop};
 ghost use Rattle.pgs_base.specs.Outcome.{accepted, laid, Delivered};
 ghost use Rattle.pgs_segment.specs.Header.{headerVerdict};
 ghost use Rattle.pgs_segment.specs.OneSegment.{usedBy};
-ghost use Rattle.pgs_segment.specs.Stream.{segmentCount, streamVerdict, streamOutcome};
+ghost use Rattle.pgs_stream.specs.Stream.{segmentCount, streamVerdict, streamOutcome};
 ghost use Rattle.pgs_segment_list.specs.Segments.{
   segmentRecords,
   planVerdict,

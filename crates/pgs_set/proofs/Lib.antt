@@ -1,14 +1,5 @@
-pub mod ChainLaws
 pub mod Choices
-pub mod EachLaws
-pub mod FindLaws
-pub mod FragmentLaws
 pub mod GroupLaws
-pub mod JoinLaws
-pub mod ListingLaws
-pub mod Lists
-pub mod ObjectLaws
+pub mod NumberLaws
 pub mod SetLaws
-pub mod TableLaws
-pub mod ViewLaws
 pub mod WalkLaws

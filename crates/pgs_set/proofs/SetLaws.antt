@@ -14,17 +14,16 @@ use Rattle.pgs_base.specs.Outcome.{Verdict, accepted, refused, Outcome, gives, 
 use Rattle.pgs_base.proofs.Front.{Front, begins, stored, filled}
 use Rattle.pgs_base.proofs.Outcomes.{gave, gave-value, turned-down, first-accepts, second-holds}
 use Rattle.pgs_segment.specs.Header.{ptsOf, sizeOf, headerFields}
-use Rattle.pgs_base.specs.Kinds.{typeOf}
+use Rattle.pgs_views.specs.Kinds.{typeOf}
 use Rattle.pgs_segment.specs.OneSegment.{segmentType, usedBy}
-use Rattle.pgs_segment.specs.Stream.{readOf, stepVerdict, streamVerdict}
+use Rattle.pgs_stream.specs.Stream.{readOf, stepVerdict, streamVerdict}
 use Rattle.pgs_segment.specs.declared.header.SegmentHeader.{SegmentHeader}
-use Rattle.pgs_base.specs.declared.«segment_type».SegmentType.{SegmentType}
-use Rattle.pgs_base.specs.declared.«segment_type».SegmentType.the-variants.{Pds, Ods, Pcs, Wds, End, Other}
+use Rattle.pgs_views.specs.declared.«segment_type».SegmentType.{SegmentType}
+use Rattle.pgs_views.specs.declared.«segment_type».SegmentType.the-variants.{Pds, Ods, Pcs, Wds, End, Other}
 use Rattle.pgs_set.proofs.Choices.{pick-first, pick-second}
 use Rattle.pgs_set.proofs.WalkLaws.{step-here, pieces-here, pieces-end, within-here, good-after, group-here, stands-on, kind-accepted, type-of-piece, piece-length, head-field}
-use Rattle.pgs_set.specs.Sets.{DisplaySet, groupVerdict, kindVerdict, stateAfter, isPcs, isEnd, opens, throughEnd, bytesIn, setsFrom, setsOf, setCount, setsVerdict, endOf, setRow, setRows}
+use Rattle.pgs_set.specs.Sets.{DisplaySet, noSet, groupVerdict, kindVerdict, stateAfter, isPcs, isEnd, opens, throughEnd, bytesIn, setsFrom, setsOf, setCount, setsVerdict, endOf, setRow, setRows}
 use Rattle.pgs_set.specs.Walks.{piecesAt, Standing, InSet, Ends, SetStands, endFrom, setAt}
-use Rattle.pgs_set.specs.Objects.{noSet}
 use Rattle.pgs_set.specs.declared.grouping.Grouping.{Grouping}
 use Rattle.pgs_set.specs.declared.grouping.Grouping.the-variants.{Outside, Inside}
 

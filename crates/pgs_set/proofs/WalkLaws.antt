@@ -11,12 +11,12 @@ use Rattle.pgs_base.specs.Outcome.{Verdict, accepted, refused, andThen, pick}
 use Rattle.pgs_base.proofs.Bytes.{num-take}
 use Rattle.pgs_base.proofs.Outcomes.{first-accepts, second-holds}
 use Rattle.pgs_segment.specs.Header.{headerVerdict, kindOf, ptsOf}
-use Rattle.pgs_base.specs.Kinds.{typeOf}
+use Rattle.pgs_views.specs.Kinds.{typeOf}
 use Rattle.pgs_segment.specs.OneSegment.{segmentType, segmentVerdict, usedBy}
-use Rattle.pgs_segment.specs.Stream.{Reading, stepVerdict, before, readOf, stoppedBy, streamVerdict}
+use Rattle.pgs_stream.specs.Stream.{Reading, stepVerdict, before, readOf, stoppedBy, streamVerdict}
 use Rattle.pgs_segment.proofs.SegmentLaws.{accepted-head, has-header}
-use Rattle.pgs_segment.proofs.StreamLaws.{step-within, read-on, read-stops, stopped-at}
-use Rattle.pgs_base.specs.declared.«segment_type».SegmentType.{SegmentType}
+use Rattle.pgs_stream.proofs.StreamLaws.{step-within, read-on, read-stops, stopped-at}
+use Rattle.pgs_views.specs.declared.«segment_type».SegmentType.{SegmentType}
 use Rattle.pgs_set.specs.Sets.{groupVerdict, kindVerdict, stateAfter}
 use Rattle.pgs_set.specs.Walks.{piecesAt, Standing}
 use Rattle.pgs_set.specs.declared.grouping.Grouping.{Grouping}

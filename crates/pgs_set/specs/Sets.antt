@@ -4,14 +4,15 @@
 use Prim.Native.Nat.{ℕ, _+_}
 use mathlib.Core.Bool.{Bool, true, false}
 use mathlib.Core.List.{List, [], _∷_, map}
-use lib.ListN.{length}
-use Rattle.pgs_base.specs.Outcome.{Verdict, accepted, refused, Outcome, gives, refuses, andThen, pick}
+use lib.ListN.{length, getD}
+use lib.Dec.{ltb}
+use Rattle.pgs_base.specs.Outcome.{Verdict, accepted, refused, Outcome, gives, refuses, andThen, unless, pick}
 use Rattle.pgs_base.specs.Refusals.{numberOf}
 use Rattle.pgs_segment.specs.Header.{ptsOf}
 use Rattle.pgs_segment.specs.OneSegment.{segmentType}
-use Rattle.pgs_segment.specs.Stream.{readOf, streamVerdict}
-use Rattle.pgs_base.specs.declared.«segment_type».SegmentType.{SegmentType}
-use Rattle.pgs_base.specs.declared.«segment_type».SegmentType.the-variants.{Pds, Ods, Pcs, Wds, End, Other}
+use Rattle.pgs_stream.specs.Stream.{readOf, streamVerdict}
+use Rattle.pgs_views.specs.declared.«segment_type».SegmentType.{SegmentType}
+use Rattle.pgs_views.specs.declared.«segment_type».SegmentType.the-variants.{Pds, Ods, Pcs, Wds, End, Other}
 use Rattle.pgs_set.specs.declared.grouping.Grouping.{Grouping}
 use Rattle.pgs_set.specs.declared.grouping.Grouping.the-variants.{Outside, Inside}
 use Rattle.pgs_set.specs.declared.grouping.GroupStep.{GroupStep}
@@ -98,6 +99,17 @@ setCount s = length (setsOf s)
 -- whether the stream is accepted and its segments make up sets
 abbrev pub setsVerdict : List ℕ → Verdict
 setsVerdict s = andThen (streamVerdict s) (groupVerdict Outside (readOf s .pieces))
+
+abbrev pub noSet : DisplaySet
+noSet = record { place = 0; opening = []; others = [] }
+
+-- the set of this number, from 0
+abbrev pub setNumber : ℕ → List ℕ → DisplaySet
+setNumber k s = getD (setsOf s) k noSet
+
+-- whether there is one: 1 to 15, then 36: "set number at or past the count"
+abbrev pub setVerdict : ℕ → List ℕ → Verdict
+setVerdict k s = andThen (setsVerdict s) (unless 36 (ltb k (setCount s)))
 
 -- how many bytes segments take
 abbrev pub bytesIn : List (List ℕ) → ℕ

@@ -1,5 +1,5 @@
--- Where a walk over the segments of a stream stands. Private contracts cite these; those of public functions cite `Sets` and
--- `Objects`.
+-- Where a walk over the segments of a stream stands. Private contracts cite these; those of public functions cite `Sets`
+-- and, for where a set stands, `FoundSet`.
 use Prim.Native.Nat.{ℕ, _+_, _≤_, _<_}
 use mathlib.Core.Path.{_≡_}
 use mathlib.Core.Bool.{Bool}
@@ -7,9 +7,8 @@ use mathlib.Core.List.{List, [], _∷_}
 use lib.ListN.{length, drop, getD}
 use Rattle.pgs_base.specs.Outcome.{accepted, Outcome, gives, refuses, outcomeOf}
 use Rattle.pgs_base.specs.Refusals.{numberOf}
-use Rattle.pgs_segment.specs.Stream.{readOf, streamVerdict}
-use Rattle.pgs_set.specs.Objects.{noSet, setNumber, setVerdict, Fragment, fragmentsFrom}
-use Rattle.pgs_set.specs.Sets.{DisplaySet, groupVerdict, setsFrom, throughEnd, bytesIn, setRow}
+use Rattle.pgs_stream.specs.Stream.{readOf, streamVerdict}
+use Rattle.pgs_set.specs.Sets.{DisplaySet, noSet, setNumber, setVerdict, groupVerdict, setsFrom, throughEnd, bytesIn, setRow}
 use Rattle.pgs_set.specs.declared.grouping.Grouping.{Grouping}
 use Rattle.pgs_set.specs.declared.grouping.Grouping.the-variants.{Outside, Inside}
 use Rattle.pgs_set.specs.declared.set.SetAnswer.{SetAnswer}
@@ -59,7 +58,3 @@ setOutcome (records.Refused r) = refuses (numberOf r)
 pub record FoundSet (s : List ℕ) (k : ℕ) (answer : Outcome (List ℕ)) : Type 0 where
   pub answered : answer ≡ outcomeOf (setVerdict k s) (setRow (setNumber k s))
   pub stands : (place end pts : ℕ) → answer ≡ gives (place ∷ end ∷ pts ∷ []) → SetStands s k place
-
--- the fragments from a place on in the set that is open there
-abbrev pub fragmentsLeft : List ℕ → ℕ → List Fragment
-fragmentsLeft s at = fragmentsFrom at (throughEnd (piecesAt s at))

@@ -1,6 +1,6 @@
 // What a segment does to the display set that is open (01, module 6).
 use pgs_base::refusal::Refusal;
-use pgs_base::segment_type::SegmentType;
+use pgs_views::segment_type::SegmentType;
 ghost use mathlib.Core.Path.{_≡_};
 ghost use Rattle.pgs_base.specs.Outcome.{outcomeOf};
 ghost use Rattle.pgs_set.specs.Sets.{kindVerdict, stateAfter, stepOutcome, isPcs};

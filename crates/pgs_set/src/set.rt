@@ -3,18 +3,18 @@ use crate::grouping::GroupStep;
 use crate::grouping::Grouping;
 use crate::grouping::group_segment;
 use pgs_base::refusal::Refusal;
-use pgs_base::segment_type::SegmentType;
 use pgs_segment::header::HeaderAnswer;
 use pgs_segment::header::SegmentHeader;
-use pgs_segment::stream::StreamAnswer;
-use pgs_segment::stream::count_segments;
+use pgs_stream::stream::StreamAnswer;
+use pgs_stream::stream::count_segments;
+use pgs_views::segment_type::SegmentType;
 ghost use mathlib.Core.Path.{_≡_};
 ghost use Prim.Native.Nat.{_≤_, _<_};
 ghost use mathlib.Core.List.{[]};
 ghost use lib.ListN.{length, drop};
 ghost use Rattle.pgs_base.specs.Outcome.{accepted, outcomeOf, laid, Delivered};
 ghost use Rattle.pgs_segment.specs.Header.{headerFields};
-ghost use Rattle.pgs_segment.specs.Stream.{readOf, stepVerdict, streamVerdict};
+ghost use Rattle.pgs_stream.specs.Stream.{readOf, stepVerdict, streamVerdict};
 ghost use Rattle.pgs_set.specs.Sets.{
   groupVerdict,
   isEnd,
@@ -39,7 +39,7 @@ pub enum SetAnswer {
 }
 
 // The head of the segment at a place where one is known to stand.
-pub(crate) fn header_at(s: &[u8], at: usize) -> SegmentHeader
+fn header_at(s: &[u8], at: usize) -> SegmentHeader
     requires { ⌜ stepVerdict (drop at (now s)) ≡ accepted ⌝ }
     ensures { λ r. ⌜ r ≡ headerFields (drop at (now (s .entry))) ⌝ }
 {
@@ -104,7 +104,8 @@ fn count_sets(s: &[u8]) -> SetsAnswer
     grouped(state, n)
 }
 
-pub(crate) fn is_end(kind: SegmentType) -> bool
+// Whether a segment of this kind closes a set.
+pub fn is_end(kind: SegmentType) -> bool
     ensures { λ r. ⌜ r ≡ isEnd kind ⌝ }
 {
     match kind {
@@ -118,7 +119,7 @@ pub(crate) fn is_end(kind: SegmentType) -> bool
 }
 
 // The place just after the END of the set that is open at `from`.
-pub(crate) fn set_end(s: &[u8], from: usize) -> usize
+fn set_end(s: &[u8], from: usize) -> usize
     requires { ⌜ InSet (now s) from ⌝ }
     ensures { λ r. ⌜ Ends (now (s .entry)) from r ⌝ }
 {
@@ -133,7 +134,7 @@ pub(crate) fn set_end(s: &[u8], from: usize) -> usize
 }
 
 // The place of the PCS of set number k, which is known to exist.
-pub(crate) fn set_place(s: &[u8], k: usize) -> usize
+fn set_place(s: &[u8], k: usize) -> usize
     requires { ⌜ setsVerdict (now s) ≡ accepted ⌝ }
     requires { ⌜ k < setCount (now s) ⌝ }
     ensures { λ r. ⌜ SetStands (now (s .entry)) k r ⌝ }

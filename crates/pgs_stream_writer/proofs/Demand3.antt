@@ -6,7 +6,7 @@ use lib.ListN.{take}
 use Rattle.pgs_encoding.specs.Cut.{cutSegment}
 use Rattle.pgs_encoding.specs.Demand3.{Accepted, WritesOf}
 use Rattle.pgs_encoding.proofs.Demand3.{writes-of-a-stream}
-use Rattle.pgs_segment.specs.Stream.{readOf}
+use Rattle.pgs_stream.specs.Stream.{readOf}
 use Rattle.pgs_stream_writer.specs.StreamWrites.{streamWrites}
 
 pub writes-of-the-call : (s : List ℕ) → Accepted s → (n : ℕ) (o : List ℕ)

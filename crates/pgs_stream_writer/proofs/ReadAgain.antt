@@ -12,9 +12,9 @@ use Rattle.pgs_base.specs.Outcome.{Verdict, accepted, refused, Outcome, gives, 
 use Rattle.pgs_base.proofs.Bytes.{num-byte}
 use Rattle.pgs_base.proofs.Lists.{to-end}
 use Rattle.pgs_base.proofs.Outcomes.{delivered, delivered-value, delivered-refusal}
-use Rattle.pgs_base.specs.declared.«segment_type».SegmentType.the-variants as kinds
-use Rattle.pgs_base.specs.Kinds.{typeOf}
-use Rattle.pgs_base.specs.declared.«segment_type».SegmentType.{SegmentType}
+use Rattle.pgs_views.specs.declared.«segment_type».SegmentType.the-variants as kinds
+use Rattle.pgs_views.specs.Kinds.{typeOf}
+use Rattle.pgs_views.specs.declared.«segment_type».SegmentType.{SegmentType}
 use Rattle.pgs_segment.specs.Fields.{pcs, wds, pds, ods, SegmentFields, bodyOf}
 use Rattle.pgs_segment.specs.Header.{sizeOf, headerFields}
 use Rattle.pgs_segment.specs.OneSegment.{segmentType, fieldsOf}
@@ -34,11 +34,11 @@ use Rattle.pgs_segment.specs.declared.wds.Window.{Window}
 use Rattle.pgs_segment.proofs.PcsLaws.{has-numbers}
 use Rattle.pgs_segment.proofs.WdsLaws.{has-count}
 use Rattle.pgs_segment.proofs.RecordLaws.{records-length}
-use Rattle.pgs_writer.specs.Answers.{writeOutcome, Wrote}
+use Rattle.pgs_writer_base.specs.Answers.{writeOutcome, Wrote}
 use Rattle.pgs_encoding.specs.Encode.{encode}
-use Rattle.pgs_writer.specs.Kinds.{wdsSegment, pdsSegment, odsSegment, pcsSegment, pcsRowsWritable, segmentWith}
+use Rattle.pgs_writer_base.specs.Kinds.{wdsSegment, pdsSegment, odsSegment, pcsSegment, pcsRowsWritable, segmentWith}
 use Rattle.pgs_encoding.specs.Layout.{each}
-use Rattle.pgs_writer.specs.Rows.{windowFrom, entryFrom, cropFrom, placementFrom, markFits}
+use Rattle.pgs_writer_base.specs.Rows.{windowFrom, entryFrom, cropFrom, placementFrom, markFits}
 use Rattle.pgs_encoding.specs.Writable.{writable}
 
 -- records and back

@@ -9,21 +9,20 @@ use lib.Dec.{leb}
 use lib.ListN.{length, take, drop, length-append, length-drop, length-map, drop-of-length-le}
 use lib.Seq.{drop-drop, length-take-le, take-all}
 use Rattle.pgs_base.proofs.Lists.{to-end}
-use Rattle.pgs_base.proofs.Outcomes.{second-holds, holds}
+use Rattle.pgs_base.proofs.Outcomes.{second-holds, holds, first-accepts}
 use Rattle.pgs_base.specs.Outcome.{Verdict, accepted, refused, Outcome, gives, refuses, outcomeOf, unless, needing, laid, delivery, Delivered}
-use Rattle.pgs_segment.proofs.ReadingLaws.{own-fields}
-use Rattle.pgs_segment.proofs.StreamLaws.{read-on, read-stops, step-within}
+use Rattle.pgs_stream.proofs.ReadingLaws.{own-fields}
+use Rattle.pgs_stream.proofs.StreamLaws.{read-on, read-stops, step-within}
 use Rattle.pgs_segment.specs.Fields.{SegmentFields}
 use Rattle.pgs_segment.specs.OneSegment.{segmentVerdict, usedBy, fieldsOf}
-use Rattle.pgs_segment.specs.Stream.{Reading, before, stepVerdict, readOf, streamFields, segmentCount, streamVerdict}
-use Rattle.pgs_base.proofs.Outcomes.{first-accepts}
-use Rattle.pgs_writer.specs.Answers.{writeOutcome, bytesWritten, writesAccepted}
+use Rattle.pgs_stream.specs.Stream.{Reading, before, stepVerdict, readOf, streamFields, segmentCount, streamVerdict}
+use Rattle.pgs_writer_base.specs.Answers.{writeOutcome, bytesWritten, writesAccepted}
 use Rattle.pgs_encoding.specs.Encode.{encode}
 use Rattle.pgs_stream_writer.specs.StreamWrites.{streamWrites, acceptedIn, writesDone, outputAfter}
 use Rattle.pgs_encoding.specs.Writable.{writeVerdict}
 use Rattle.pgs_encoding.specs.Writes.{Written, writeInto, movedBy, after, run}
-use Rattle.pgs_writer.specs.declared.head.WriteAnswer.{WriteAnswer}
-use Rattle.pgs_writer.specs.declared.head.WriteAnswer.the-variants as answers
+use Rattle.pgs_writer_base.specs.declared.head.WriteAnswer.{WriteAnswer}
+use Rattle.pgs_writer_base.specs.declared.head.WriteAnswer.the-variants as answers
 
 -- i of n writes are done: `done` were accepted, the next segment stands at `from` and is written from `at` on
 pub record Performing (s : List ℕ) (n : ℕ) (start now : List ℕ) (i from at done : ℕ) : Type 0 where

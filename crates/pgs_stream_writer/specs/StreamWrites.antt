@@ -5,7 +5,7 @@ use mathlib.Core.List.{List, [], _∷_}
 use lib.ListN.{take}
 use Rattle.pgs_base.specs.Outcome.{Verdict, accepted, refused, Outcome, gives, refuses}
 use Rattle.pgs_base.specs.Refusals.{numberOf}
-use Rattle.pgs_segment.specs.Stream.{streamFields}
+use Rattle.pgs_stream.specs.Stream.{streamFields}
 use Rattle.pgs_encoding.specs.Writes.{Written, run}
 use Rattle.pgs_stream_writer.specs.declared.stream.WritesAnswer.{WritesAnswer}
 use Rattle.pgs_stream_writer.specs.declared.stream.WritesAnswer.the-variants.{Writes, Refused}

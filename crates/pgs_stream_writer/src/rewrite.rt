@@ -1,5 +1,4 @@
 // One segment that is read and written again, through the public readings and the writers.
-use pgs_base::segment_type::SegmentType;
 use pgs_segment::header::HeaderAnswer;
 use pgs_segment::header::SegmentHeader;
 use pgs_segment::ods::Ods;
@@ -10,21 +9,22 @@ use pgs_segment::pds::Pds;
 use pgs_segment::pds::PdsAnswer;
 use pgs_segment::wds::Wds;
 use pgs_segment::wds::WdsAnswer;
+use pgs_views::segment_type::SegmentType;
 use pgs_writer::end::encode_end;
-use pgs_writer::head::WriteAnswer;
 use pgs_writer::ods::encode_ods;
 use pgs_writer::other::encode_other;
-use pgs_writer::pcs::encode_pcs;
-use pgs_writer::pds::encode_pds;
-use pgs_writer::wds::encode_wds;
+use pgs_writer_base::head::WriteAnswer;
+use pgs_writer_lists::pds::encode_pds;
+use pgs_writer_lists::wds::encode_wds;
+use pgs_writer_pcs::pcs::encode_pcs;
 ghost use mathlib.Core.Path.{_≡_};
 ghost use Prim.Native.Nat.{_≤_, _<_};
 ghost use lib.ListN.{length};
 ghost use Rattle.pgs_base.specs.Outcome.{accepted};
 ghost use Rattle.pgs_segment.specs.Fields.{bodyVerdict};
 ghost use Rattle.pgs_segment.specs.OneSegment.{segmentVerdict, fieldsOf};
-ghost use Rattle.pgs_writer.specs.Answers.{Wrote};
-ghost use Rattle.pgs_writer.specs.Kinds.{segmentWith};
+ghost use Rattle.pgs_writer_base.specs.Answers.{Wrote};
+ghost use Rattle.pgs_writer_base.specs.Kinds.{segmentWith};
 
 // Room for all placements and windows that a count of one byte can name, and for all entries of a body of 65,535 bytes.
 const PLACEMENTS: usize = 255;

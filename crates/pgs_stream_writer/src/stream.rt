@@ -3,15 +3,15 @@ use crate::rewrite::rewrite_segment;
 use pgs_base::number::u16_of;
 use pgs_base::refusal::Refusal;
 use pgs_segment::header::SegmentHeader;
-use pgs_segment::stream::StreamAnswer;
-use pgs_segment::stream::count_segments;
-use pgs_writer::head::WriteAnswer;
+use pgs_stream::stream::StreamAnswer;
+use pgs_stream::stream::count_segments;
+use pgs_writer_base::head::WriteAnswer;
 ghost use mathlib.Core.Path.{_≡_};
 ghost use Prim.Native.Nat.{_≤_};
 ghost use Rattle.pgs_base.specs.Outcome.{accepted, gives, outcomeOf};
 ghost use Rattle.pgs_segment.specs.OneSegment.{segmentVerdict, usedBy};
-ghost use Rattle.pgs_segment.specs.Stream.{streamVerdict, segmentCount};
-ghost use Rattle.pgs_writer.specs.Answers.{bytesWritten, writesAccepted};
+ghost use Rattle.pgs_stream.specs.Stream.{streamVerdict, segmentCount};
+ghost use Rattle.pgs_writer_base.specs.Answers.{bytesWritten, writesAccepted};
 ghost use Rattle.pgs_stream_writer.specs.StreamWrites.{streamWrites, writesDone, outputAfter, writesOutcome};
 
 // How many writes were accepted and how many bytes they take, or why the stream is refused.

@@ -1,12 +1,12 @@
 // The writer of an END.
-use crate::head::WriteAnswer;
-use crate::head::put_head;
 use pgs_base::refusal::Refusal;
+use pgs_writer_base::head::WriteAnswer;
+use pgs_writer_base::head::put_head;
 ghost use lib.ListN.{length};
 ghost use Rattle.pgs_base.specs.Outcome.{Delivered};
-ghost use Rattle.pgs_writer.specs.Answers.{writeOutcome};
+ghost use Rattle.pgs_writer_base.specs.Answers.{writeOutcome};
 ghost use Rattle.pgs_encoding.specs.Encode.{encode};
-ghost use Rattle.pgs_writer.specs.Kinds.{endSegment};
+ghost use Rattle.pgs_writer_base.specs.Kinds.{endSegment};
 ghost use Rattle.pgs_encoding.specs.Writable.{writeVerdict};
 
 // Writes an END, which has no body.

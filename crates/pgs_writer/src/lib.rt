@@ -1,9 +1,5 @@
-// The writer of each kind of segment (01, module 5): fields and lists in, bytes into the lent output.
+// The writers of an ODS, an END and a segment of an unknown kind (01, module 5): fields and data in, bytes into the lent output.
+mod data;
 pub mod end;
-pub mod head;
 pub mod ods;
 pub mod other;
-pub mod pcs;
-pub mod pds;
-mod put;
-pub mod wds;

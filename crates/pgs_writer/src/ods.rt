@@ -1,26 +1,26 @@
 // The writer of an ODS.
-use crate::head::WriteAnswer;
-use crate::head::put_head;
-use crate::put::put_data;
-use crate::put::put_u8;
-use crate::put::put_u16;
-use crate::put::put_u24;
-use pgs_base::fragment_flag::FragmentFlag;
+use crate::data::put_data;
 use pgs_base::refusal::Refusal;
 use pgs_segment::ods::Dimensions;
 use pgs_segment::ods::Ods;
+use pgs_views::fragment_flag::FragmentFlag;
+use pgs_writer_base::head::WriteAnswer;
+use pgs_writer_base::head::put_head;
+use pgs_writer_base::put::put_u8;
+use pgs_writer_base::put::put_u16;
+use pgs_writer_base::put::put_u24;
 ghost use mathlib.Core.Path.{_≡_};
 ghost use mathlib.Core.Bool.{false};
 ghost use mathlib.Core.List.{[], _∷_};
 ghost use Rattle.pgs_base.specs.Outcome.{pick};
 ghost use lib.ListN.{length};
 ghost use Rattle.pgs_base.specs.Outcome.{Delivered};
-ghost use Rattle.pgs_writer.specs.Answers.{writeOutcome};
+ghost use Rattle.pgs_writer_base.specs.Answers.{writeOutcome};
 ghost use Rattle.pgs_encoding.specs.Encode.{encode};
 ghost use Prim.Native.Nat.{_+_, _≤_, _<_};
 ghost use lib.Seq.{sets};
 ghost use Rattle.pgs_encoding.specs.Encode.{odsFields};
-ghost use Rattle.pgs_writer.specs.Kinds.{odsSegment};
+ghost use Rattle.pgs_writer_base.specs.Kinds.{odsSegment};
 ghost use Rattle.pgs_encoding.specs.Layout.{written, allFit};
 ghost use Rattle.pgs_encoding.specs.Writable.{writeVerdict, odsWritable};
 

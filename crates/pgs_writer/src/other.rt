@@ -1,16 +1,16 @@
 // The writer of a segment of an unknown kind.
-use crate::head::WriteAnswer;
-use crate::head::put_head;
-use crate::put::put_data;
+use crate::data::put_data;
 use pgs_base::refusal::Refusal;
-use pgs_base::segment_type::SegmentType;
+use pgs_views::segment_type::SegmentType;
+use pgs_writer_base::head::WriteAnswer;
+use pgs_writer_base::head::put_head;
 ghost use mathlib.Core.Path.{_≡_};
 ghost use lib.ListN.{length};
 ghost use Rattle.pgs_base.specs.Outcome.{Delivered};
-ghost use Rattle.pgs_writer.specs.Answers.{writeOutcome};
+ghost use Rattle.pgs_writer_base.specs.Answers.{writeOutcome};
 ghost use Rattle.pgs_encoding.specs.Encode.{encode};
-ghost use Rattle.pgs_base.specs.Kinds.{typeOf};
-ghost use Rattle.pgs_writer.specs.Kinds.{otherSegment};
+ghost use Rattle.pgs_views.specs.Kinds.{typeOf};
+ghost use Rattle.pgs_writer_base.specs.Kinds.{otherSegment};
 ghost use Rattle.pgs_encoding.specs.Writable.{writeVerdict, unknownKind};
 
 // Whether a byte is none of the five known kinds'.

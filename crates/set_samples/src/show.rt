@@ -2,7 +2,7 @@
 use crate::build::Stream;
 use libc::STDOUT_FILENO;
 use pgs_base::refusal::Refusal;
-use pgs_set::object::ObjectsAnswer;
+use pgs_object::object::ObjectsAnswer;
 use pgs_set::set::SetsAnswer;
 
 fn print_number(n: u64) {
@@ -43,7 +43,7 @@ fn print_object<'a>(stream: &'a [u8], scratch: &'a [u8], r: [u64; 7]) {
     print_number(r[5]);
     print_number(r[6]);
     io::write_all(STDOUT_FILENO, b" shows");
-    print_bytes(pgs_set::object::object_data(stream, scratch, r));
+    print_bytes(pgs_object_view::view::object_data(stream, scratch, r));
 }
 
 // The sets of the first n bytes, with room for two records.
@@ -90,9 +90,9 @@ fn reassembled(
     list: &mut [[u64; 7]],
 ) -> ObjectsAnswer {
     if room < scratch.len() {
-        return pgs_set::object::reassemble_objects(stream, set, &mut scratch[..room], list);
+        return pgs_object::object::reassemble_objects(stream, set, &mut scratch[..room], list);
     }
-    pgs_set::object::reassemble_objects(stream, set, scratch, list)
+    pgs_object::object::reassemble_objects(stream, set, scratch, list)
 }
 
 // The objects of a set of the first n bytes, with room for two records, and `room` bytes of the scratch.
@@ -119,7 +119,7 @@ fn one_in(title: &[u8], buf: &[u8], n: usize) {
     }
     io::write_all(STDOUT_FILENO, title);
     let mut list = [[9u64; 7]; 1];
-    let answer = pgs_set::object::reassemble_objects(&buf[..n], 0, &mut scratch, &mut list);
+    let answer = pgs_object::object::reassemble_objects(&buf[..n], 0, &mut scratch, &mut list);
     print_answer(answer);
     print_object(&buf[..n], &scratch, list[0]);
     io::write_all(STDOUT_FILENO, b"  scratch");
@@ -134,7 +134,7 @@ fn many_in(title: &[u8], buf: &[u8], n: usize) {
     }
     io::write_all(STDOUT_FILENO, title);
     let mut list = [[9u64; 7]; 65];
-    let answer = pgs_set::object::reassemble_objects(&buf[..n], 0, &mut scratch, &mut list);
+    let answer = pgs_object::object::reassemble_objects(&buf[..n], 0, &mut scratch, &mut list);
     print_answer(answer);
 }
 

@@ -4,11 +4,11 @@ use pgs_segment::ods::Dimensions;
 use pgs_segment::ods::Ods;
 use pgs_segment::pcs::Pcs;
 use pgs_writer::end::encode_end;
-use pgs_writer::head::WriteAnswer;
 use pgs_writer::ods::encode_ods;
 use pgs_writer::other::encode_other;
-use pgs_writer::pcs::encode_pcs;
-use pgs_writer::wds::encode_wds;
+use pgs_writer_base::head::WriteAnswer;
+use pgs_writer_lists::wds::encode_wds;
+use pgs_writer_pcs::pcs::encode_pcs;
 
 // A PCS with one placement.
 fn write_one(p: [u16; 10], out: &mut [u8]) -> WriteAnswer {

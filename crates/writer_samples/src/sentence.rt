@@ -5,8 +5,8 @@ use pgs_segment::pcs::Pcs;
 use pgs_segment::pcs::PcsAnswer;
 use pgs_segment::segment::Segment;
 use pgs_segment::segment::SegmentAnswer;
-use pgs_writer::head::WriteAnswer;
-use pgs_writer::pcs::encode_pcs;
+use pgs_writer_base::head::WriteAnswer;
+use pgs_writer_pcs::pcs::encode_pcs;
 
 // Sign i: every third is an accent.
 fn sign(i: u8) -> [u16; 10] {

@@ -2,7 +2,7 @@
 use libc::STDOUT_FILENO;
 use pgs_base::refusal::Refusal;
 use pgs_stream_writer::stream::WritesAnswer;
-use pgs_writer::head::WriteAnswer;
+use pgs_writer_base::head::WriteAnswer;
 
 pub(crate) fn text(t: &[u8]) {
     io::write_all(STDOUT_FILENO, t);

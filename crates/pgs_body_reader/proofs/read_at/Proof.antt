@@ -3,7 +3,7 @@
 use mathlib.Core.Path.{sym, ap, _∙_}
 use denote.Ref.{now}
 use borrow.Author.Needs.{needs}
-use Rattle.pgs_base.specs.Cursor.{outcome}
+use Rattle.pgs_cursor.specs.Cursor.{outcome}
 use Rattle.pgs_body_reader.specs.Reader.{numberOr, placeOr}
 use Rattle.pgs_body_reader.proofs.read_at.Statement.{statement}
 use Rattle.pgs_body_reader.proofs.read_at.Tie as tie

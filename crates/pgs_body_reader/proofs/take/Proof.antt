@@ -5,7 +5,7 @@ use Prim.Native.Nat.{ℕ}
 use native.Mathlib.Omega.{arith}
 use denote.Ref.{now}
 use borrow.Author.Needs.{needs}
-use Rattle.pgs_base.specs.Cursor.{takenAt}
+use Rattle.pgs_cursor.specs.Cursor.{takenAt}
 use Rattle.pgs_body_reader.proofs.take.Statement.{statement}
 use Rattle.pgs_body_reader.proofs.take.Tie as tie
 

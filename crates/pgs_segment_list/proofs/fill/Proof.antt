@@ -50,7 +50,7 @@ use denote.Exit.{yes}
 use Rattle.pgs_base.specs.Outcome.{accepted, laid}
 use Rattle.pgs_segment.specs.Header.{headerVerdict}
 use Rattle.pgs_segment.specs.OneSegment.{usedBy}
-use Rattle.pgs_segment.specs.Stream.{segmentCount}
+use Rattle.pgs_stream.specs.Stream.{segmentCount}
 use Rattle.pgs_segment_list.specs.Segments.{recordOf, segmentRecords, planVerdict, storedBy, Recorded}
 use Rattle.pgs_segment_list.specs.declared.Placed.{Placed}
 use Rattle.pgs_segment_list.specs.declared.SegmentRecord.{SegmentRecord}

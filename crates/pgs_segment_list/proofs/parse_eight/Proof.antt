@@ -44,10 +44,10 @@ use denote.Triple.Table.{entered, cited}
 use denote.Triple.Walked.{says, Stays, stay-none-slice, stay-none, walkOf, goes-none-slice, goes-none, Walks, ends-at, walked, walk-meets}
 use denote.Exit.{yes}
 use Rattle.pgs_base.specs.Outcome.{Delivered}
-use Rattle.pgs_segment.specs.Stream.{segmentCount, streamVerdict, streamOutcome}
-use Rattle.pgs_segment.specs.declared.stream.StreamAnswer.{StreamAnswer}
-use Rattle.pgs_segment.proofs.stream.StreamAnswer as S
-use Rattle.pgs_segment.proofs.stream.StreamAnswer.Laws as S′
+use Rattle.pgs_stream.specs.Stream.{segmentCount, streamVerdict, streamOutcome}
+use Rattle.pgs_stream.specs.declared.stream.StreamAnswer.{StreamAnswer}
+use Rattle.pgs_stream.proofs.stream.StreamAnswer as S
+use Rattle.pgs_stream.proofs.stream.StreamAnswer.Laws as S′
 use Rattle.pgs_segment_list.specs.Segments.{segmentRecords}
 use Rattle.pgs_segment_list.specs.declared.Eight.{Eight}
 use Rattle.pgs_segment_list.specs.declared.SegmentRecord.{SegmentRecord}

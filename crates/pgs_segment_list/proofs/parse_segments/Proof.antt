@@ -41,9 +41,9 @@ use denote.Triple.Table.{entered, cited}
 use denote.Triple.Walked.{says, Stays, stay-none-slice, gave-slice, walkOf, goes-none-slice, goes-gave-slice, Walks, ends-at, walked, walk-meets}
 use denote.Exit.{yes}
 use Rattle.pgs_base.specs.Outcome.{laid, Delivered}
-use Rattle.pgs_segment.specs.Stream.{segmentCount, streamVerdict, streamOutcome}
-use Rattle.pgs_segment.proofs.stream.StreamAnswer as S
-use Rattle.pgs_segment.proofs.stream.StreamAnswer.Laws as S′
+use Rattle.pgs_stream.specs.Stream.{segmentCount, streamVerdict, streamOutcome}
+use Rattle.pgs_stream.proofs.stream.StreamAnswer as S
+use Rattle.pgs_stream.proofs.stream.StreamAnswer.Laws as S′
 use Rattle.pgs_segment_list.specs.Segments.{segmentRecords, planVerdict, Planned}
 use Rattle.pgs_segment_list.specs.declared.Plan.{Plan}
 use Rattle.pgs_segment_list.specs.declared.SegmentRecord.{SegmentRecord}

@@ -4,7 +4,7 @@ use mathlib.Core.Path.{sym, ap, _∙_}
 use native.Mathlib.Omega.{arith}
 use denote.Ref.{now}
 use borrow.Author.Needs.{needs}
-use Rattle.pgs_segment.specs.Stream.{streamOutcome}
+use Rattle.pgs_stream.specs.Stream.{streamOutcome}
 use Rattle.pgs_segment_list.proofs.RecordLaws.{refusal-planned, short-planned, all-planned}
 use Rattle.pgs_segment_list.proofs.plan_for.Statement.{statement}
 use Rattle.pgs_segment_list.proofs.plan_for.Tie as tie

@@ -6,7 +6,7 @@ use Rattle.pgs_cells.specs.OdsCells.{odsFrom, odsCellsFit, odsNumbersOutcome}
 use Rattle.pgs_c_writer.specs.Writing.{odsCellsWritable}
 use Rattle.pgs_encoding.specs.Writable.{writable}
 use Rattle.pgs_segment.specs.declared.ods.Ods.{Ods}
-use Rattle.pgs_writer.specs.Kinds.{odsSegment}
+use Rattle.pgs_writer_base.specs.Kinds.{odsSegment}
 use denote.Ref.{now}
 use mathlib.Core.Path.{sym, ap, _∙_}
 use Rattle.pgs_c_writer.proofs.writing.pgs_encode_ods.Statement.{statement}

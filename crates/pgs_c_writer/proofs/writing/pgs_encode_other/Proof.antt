@@ -3,7 +3,7 @@
 use borrow.Author.Needs.{needs}
 use Rattle.pgs_c_writer.proofs.WriteCalls.{told-call}
 use Rattle.pgs_encoding.specs.Writable.{writable}
-use Rattle.pgs_writer.specs.Kinds.{otherSegment}
+use Rattle.pgs_writer_base.specs.Kinds.{otherSegment}
 use denote.Ref.{now}
 use Rattle.pgs_c_writer.proofs.writing.pgs_encode_other.Statement.{statement}
 use Rattle.pgs_c_writer.proofs.writing.pgs_encode_other.Tie as tie

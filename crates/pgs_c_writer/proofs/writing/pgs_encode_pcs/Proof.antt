@@ -5,7 +5,7 @@ use Rattle.pgs_c_writer.proofs.WriteCalls.{told-call, cells-call, by-ce
 use Rattle.pgs_cells.specs.PcsCells.{pcsFrom, pcsCellsFit, pcsNumbersOutcome}
 use Rattle.pgs_c_writer.specs.Writing.{pcsCellsWritable}
 use Rattle.pgs_segment.specs.declared.pcs.Pcs.{Pcs}
-use Rattle.pgs_writer.specs.Kinds.{pcsSegment, pcsRowsWritable}
+use Rattle.pgs_writer_base.specs.Kinds.{pcsSegment, pcsRowsWritable}
 use denote.Ref.{now}
 use mathlib.Core.Path.{sym, ap, _∙_}
 use Rattle.pgs_c_writer.proofs.writing.pgs_encode_pcs.Statement.{statement}

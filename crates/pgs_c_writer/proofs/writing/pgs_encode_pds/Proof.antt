@@ -4,7 +4,7 @@ use borrow.Author.Needs.{needs}
 use Rattle.pgs_c_writer.proofs.WriteCalls.{told-call}
 use Rattle.pgs_cells.specs.PdsCells.{pdsFrom}
 use Rattle.pgs_encoding.specs.Writable.{writable}
-use Rattle.pgs_writer.specs.Kinds.{pdsSegment}
+use Rattle.pgs_writer_base.specs.Kinds.{pdsSegment}
 use denote.Ref.{now}
 use Rattle.pgs_c_writer.proofs.writing.pgs_encode_pds.Statement.{statement}
 use Rattle.pgs_c_writer.proofs.writing.pgs_encode_pds.Tie as tie

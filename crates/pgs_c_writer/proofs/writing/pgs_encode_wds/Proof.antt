@@ -3,7 +3,7 @@
 use borrow.Author.Needs.{needs}
 use Rattle.pgs_c_writer.proofs.WriteCalls.{told-call}
 use Rattle.pgs_encoding.specs.Writable.{writable}
-use Rattle.pgs_writer.specs.Kinds.{wdsSegment}
+use Rattle.pgs_writer_base.specs.Kinds.{wdsSegment}
 use denote.Ref.{now}
 use Rattle.pgs_c_writer.proofs.writing.pgs_encode_wds.Statement.{statement}
 use Rattle.pgs_c_writer.proofs.writing.pgs_encode_wds.Tie as tie

@@ -2,8 +2,8 @@
 -- Assumes nothing.
 use borrow.Author.Needs.{needs}
 use Rattle.pgs_c_writer.specs.Writing.{codeBy, setBy}
-use Rattle.pgs_writer.specs.Answers.{writeOutcome}
-use Rattle.pgs_writer.specs.declared.head.WriteAnswer.{WriteAnswer}
+use Rattle.pgs_writer_base.specs.Answers.{writeOutcome}
+use Rattle.pgs_writer_base.specs.declared.head.WriteAnswer.{WriteAnswer}
 use denote.Ref.{now}
 use mathlib.Core.Path.{sym, ap, _∙_}
 use Rattle.pgs_c_writer.proofs.writing.told.Statement.{statement}

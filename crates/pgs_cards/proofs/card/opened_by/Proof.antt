@@ -1,7 +1,7 @@
 -- `opened_by` asks the fragment flag.
 -- Assumes nothing.
 use borrow.Author.Needs.{needs}
-use Rattle.pgs_base.specs.Fragments.{isFirst}
+use Rattle.pgs_views.specs.Fragments.{isFirst}
 use Rattle.pgs_base.specs.Outcome.{pick}
 use mathlib.Core.Bool.{Bool}
 use Prim.Native.Nat.{ℕ}

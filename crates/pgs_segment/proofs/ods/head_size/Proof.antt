@@ -2,7 +2,7 @@
 -- Assumes nothing.
 use Rattle.pgs_segment.proofs.OdsLaws.{head-first, head-later}
 use Rattle.pgs_segment.proofs.ods.head_size.Statement.{statement}
-use Rattle.pgs_base.specs.Fragments.{isFirst}
+use Rattle.pgs_views.specs.Fragments.{isFirst}
 use borrow.Author.Needs.{needs}
 use mathlib.Core.Path.{sym, ap, _∙_}
 use Rattle.pgs_segment.proofs.ods.head_size.Tie as tie

@@ -4,7 +4,7 @@ use Prim.Native.Nat.{ℕ}
 use Rattle.pgs_base.specs.Outcome.{Outcome, outcomeOf}
 use Rattle.pgs_segment.proofs.segment.check_body.Statement.{statement}
 use Rattle.pgs_segment.specs.Fields.{bodyVerdict, bodyList}
-use Rattle.pgs_base.specs.declared.«segment_type».SegmentType.{SegmentType}
+use Rattle.pgs_views.specs.declared.«segment_type».SegmentType.{SegmentType}
 use Rattle.pgs_segment.specs.declared.segment.BodyList.{BodyList}
 use borrow.Author.Needs.{needs}
 use denote.Ref.{now}

@@ -8,7 +8,7 @@ use Rattle.pgs_segment.proofs.segment.check_segment.Statement.{statemen
 use Rattle.pgs_segment.specs.Checks.{checkedOutcome}
 use Rattle.pgs_segment.specs.Fields.{bodyVerdict, bodyList}
 use Rattle.pgs_segment.specs.Header.{headerOutcome, headerVerdict, headerFields, sizeOf, kindOf}
-use Rattle.pgs_base.specs.Kinds.{typeOf}
+use Rattle.pgs_views.specs.Kinds.{typeOf}
 use Rattle.pgs_segment.specs.OneSegment.{segmentType, bodyAt, frameOf}
 use Rattle.pgs_segment.specs.declared.header.SegmentHeader.{SegmentHeader}
 use borrow.Author.Needs.{needs}

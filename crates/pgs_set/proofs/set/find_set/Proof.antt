@@ -2,7 +2,7 @@
 -- Assumes nothing.
 use borrow.Author.Needs.{needs}
 use Rattle.pgs_base.proofs.Outcomes.{gave, gave-value, turned-down}
-use Rattle.pgs_set.proofs.ObjectLaws.{stands-here, stands-open, finds-set, finds-no-sets, finds-past}
+use Rattle.pgs_set.proofs.NumberLaws.{stands-here, stands-open, finds-set, finds-no-sets, finds-past}
 use Rattle.pgs_set.specs.Sets.{setsVerdict, setCount, setsOutcome}
 use denote.Ref.{now}
 use mathlib.Core.Path.{sym, ap, _∙_}

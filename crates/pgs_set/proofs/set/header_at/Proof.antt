@@ -5,7 +5,7 @@ use Rattle.pgs_base.proofs.Lists.{to-end}
 use Rattle.pgs_base.proofs.Outcomes.{gave-value, turned-down}
 use Rattle.pgs_base.specs.Outcome.{accepted, refused, Outcome, outcomeOf}
 use Rattle.pgs_segment.specs.Header.{headerVerdict, headerFields, headerOutcome}
-use Rattle.pgs_segment.specs.Stream.{stepVerdict}
+use Rattle.pgs_stream.specs.Stream.{stepVerdict}
 use Rattle.pgs_segment.specs.declared.header.SegmentHeader.{SegmentHeader}
 use Rattle.pgs_set.proofs.WalkLaws.{step-header, step-length}
 use Prim.Native.Nat.{ℕ, _≤_, _-_}

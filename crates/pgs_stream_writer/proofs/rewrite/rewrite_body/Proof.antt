@@ -3,12 +3,12 @@
 use borrow.Author.Needs.{needs}
 use Prim.Native.Nat.{ℕ}
 use Rattle.pgs_base.specs.Outcome.{Outcome, accepted, Delivered}
-use Rattle.pgs_base.specs.declared.«segment_type».SegmentType.{SegmentType}
+use Rattle.pgs_views.specs.declared.«segment_type».SegmentType.{SegmentType}
 use Rattle.pgs_segment.specs.Fields.{bodyVerdict}
 use Rattle.pgs_stream_writer.proofs.ReadAgain.{same-write}
 use Rattle.pgs_stream_writer.proofs.rewrite.rewrite_body.Statement.{statement}
 use Rattle.pgs_encoding.specs.Encode.{encode}
-use Rattle.pgs_writer.specs.Kinds.{segmentWith}
+use Rattle.pgs_writer_base.specs.Kinds.{segmentWith}
 use Rattle.pgs_encoding.specs.Writable.{writeVerdict}
 use denote.Ref.{now}
 use lib.ListN.{length}

@@ -5,7 +5,7 @@ use Rattle.pgs_base.specs.Outcome.{gives, refuses, Delivered}
 use Rattle.pgs_segment.specs.PcsBody.{placementRow, placementsOf, pcsOutcome}
 use Rattle.pgs_stream_writer.proofs.ReadAgain.{not-refused, room, front-length, read-again, same-write, placement-back, placement-list, placement-count, few-placements, pcs-again, marked, front}
 use Rattle.pgs_stream_writer.proofs.rewrite.rewrite_pcs.Statement.{statement}
-use Rattle.pgs_writer.specs.Rows.{placementFrom}
+use Rattle.pgs_writer_base.specs.Rows.{placementFrom}
 use Rattle.pgs_base.proofs.Outcomes.{delivered-value}
 use Prim.Native.Nat.{ℕ}
 use Rattle.pgs_segment.specs.declared.pcs.Pcs.{Pcs}

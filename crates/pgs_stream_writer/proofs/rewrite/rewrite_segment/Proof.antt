@@ -3,7 +3,7 @@
 use borrow.Author.Needs.{needs}
 use Prim.Native.Nat.{ℕ, _+_, _-_, _≤_, _<_}
 use Rattle.pgs_base.proofs.Outcomes.{gave-value, turned-down}
-use Rattle.pgs_base.specs.Kinds.{typeOf}
+use Rattle.pgs_views.specs.Kinds.{typeOf}
 use Rattle.pgs_base.specs.Outcome.{gives, outcomeOf}
 use Rattle.pgs_segment.proofs.SegmentLaws.{accepted-head, accepted-size, accepted-body, lent-verdict}
 use Rattle.pgs_segment.specs.Header.{sizeOf, headerVerdict, headerFields, headerOutcome}

@@ -5,7 +5,7 @@ use Rattle.pgs_base.specs.Outcome.{gives, refuses, Delivered}
 use Rattle.pgs_segment.specs.WdsBody.{windowRow, windowCount, windowsOf, windowRows, wdsVerdict, wdsOutcome}
 use Rattle.pgs_stream_writer.proofs.ReadAgain.{not-refused, room, front-length, read-again, same-write, window-back, window-list, window-count, few-windows, wds-again}
 use Rattle.pgs_stream_writer.proofs.rewrite.rewrite_wds.Statement.{statement}
-use Rattle.pgs_writer.specs.Rows.{windowFrom}
+use Rattle.pgs_writer_base.specs.Rows.{windowFrom}
 use Rattle.pgs_base.proofs.Outcomes.{delivered-value}
 use denote.Ref.{now}
 use lib.ListN.{take}

@@ -3,7 +3,7 @@
 use borrow.Author.Needs.{needs}
 use Prim.Native.Nat.{ℕ}
 use Rattle.pgs_base.proofs.Outcomes.{gave, gave-value, turned-down}
-use Rattle.pgs_segment.specs.Stream.{streamVerdict, segmentCount, streamOutcome}
+use Rattle.pgs_stream.specs.Stream.{streamVerdict, segmentCount, streamOutcome}
 use Rattle.pgs_stream_writer.proofs.StreamWriteLaws.{accepted-writes, refused-writes, all-writes}
 use Rattle.pgs_stream_writer.proofs.stream.write_segments.Statement.{statement}
 use denote.Ref.{now}

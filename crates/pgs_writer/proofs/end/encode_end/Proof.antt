@@ -1,8 +1,8 @@
 -- `encode_end` stores a head alone.
 -- Assumes nothing.
-use Rattle.pgs_writer.proofs.WriteLaws.{writable-body, encode-size, encoded, write-34, write-all}
+use Rattle.pgs_writer_base.proofs.WriteLaws.{writable-body, encode-size, encoded, write-34, write-all}
 use Rattle.pgs_writer.proofs.end.encode_end.Statement.{statement}
-use Rattle.pgs_writer.specs.Kinds.{endSegment}
+use Rattle.pgs_writer_base.specs.Kinds.{endSegment}
 use borrow.Author.Needs.{needs}
 use denote.Ref.{now}
 use mathlib.Core.Path.{refl}

@@ -1,7 +1,7 @@
 -- `dimensions_fit` is the test itself: the numbers fit their types.
 -- Assumes nothing.
 use Rattle.pgs_base.specs.Outcome.{pick}
-use Rattle.pgs_writer.proofs.FitLaws.{pick-self}
+use Rattle.pgs_writer_base.proofs.FitLaws.{pick-self}
 use Rattle.pgs_writer.proofs.ods.dimensions_fit.Statement.{statement}
 use borrow.Author.Tests.{lt-ltb}
 use mathlib.Core.Bool.{Bool, false}

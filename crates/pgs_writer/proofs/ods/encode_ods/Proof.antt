@@ -1,10 +1,10 @@
 -- `encode_ods` tests the numbers and the size, then the room, then stores head, numbers and data.
 -- Assumes nothing.
 use Prim.Native.Nat.{ℕ, _+_}
-use Rattle.pgs_writer.proofs.WriteKinds.{ods-size-most, ods-length, ods-body}
-use Rattle.pgs_writer.proofs.WriteLaws.{body-refused, size-refused, writable-body, encode-size, encoded, write-35, write-34, write-all}
+use Rattle.pgs_writer_base.proofs.WriteKinds.{ods-size-most, ods-length, ods-body}
+use Rattle.pgs_writer_base.proofs.WriteLaws.{body-refused, size-refused, writable-body, encode-size, encoded, write-35, write-34, write-all}
 use Rattle.pgs_writer.proofs.ods.encode_ods.Statement.{statement}
-use Rattle.pgs_writer.specs.Kinds.{odsSegment}
+use Rattle.pgs_writer_base.specs.Kinds.{odsSegment}
 use borrow.Author.Needs.{needs}
 use denote.Ref.{now}
 use lib.ListN.{length}

@@ -1,10 +1,10 @@
 -- `ods_fits` tests the declared length and that dimensions are where they belong.
 -- Assumes nothing.
-use Rattle.pgs_base.specs.Fragments.{isFirst}
+use Rattle.pgs_views.specs.Fragments.{isFirst}
 use Rattle.pgs_base.specs.Outcome.{pick}
 use Rattle.pgs_segment.specs.declared.ods.Dimensions.the-variants.{Absent, Present}
-use Rattle.pgs_writer.proofs.FitLaws.{pick-self}
-use Rattle.pgs_writer.proofs.WriteKinds.{ods-long, ods-shape}
+use Rattle.pgs_writer_base.proofs.FitLaws.{pick-self}
+use Rattle.pgs_writer_base.proofs.WriteKinds.{ods-long, ods-shape}
 use Rattle.pgs_writer.proofs.ods.ods_fits.Statement.{statement}
 use borrow.Author.Needs.{needs}
 use mathlib.Core.Bool.{Bool, true, false, not}

@@ -1,6 +1,6 @@
 -- `put_ods` stores the numbers one after another, the dimensions where there are any.
 -- Assumes nothing.
-use Rattle.pgs_writer.proofs.WriteKinds.{ods-size-at, ods-stored, ods-stored-with}
+use Rattle.pgs_writer_base.proofs.WriteKinds.{ods-size-at, ods-stored, ods-stored-with}
 use Rattle.pgs_writer.proofs.ods.put_ods.Statement.{statement}
 use borrow.Author.Needs.{needs}
 use denote.Ref.{now}
@@ -26,10 +26,10 @@ enum-known-dimensions : tie.Need-enum-known-dimensions
 enum-known-dimensions c = search needs
 
 put-u16-requires-2 : tie.Need-put-u16-requires-2
-put-u16-requires-2 c κs = omega (arith, ods-size-at (c .before .before .before .before .before .before .before .before .before .before .before .before .before .before .before .before .before .before .before .before .before .args .o) (c .before .before .dimensions .given .1), c .before .before .before .before .before .before .put-u24 .kept .0, c .before .before .before .before .before .before .before .before .before .before .put-u82 .kept .0, c .before .before .before .before .before .before .before .before .before .before .before .before .before .before .put-u8 .kept .0, c .before .before .before .before .before .before .before .before .before .before .before .before .before .before .before .before .before .before .put-u16 .kept .0, c .before .before .before .before .before .before .before .before .before .before .before .before .before .before .before .before .before .before .before .before .before .pre)
+put-u16-requires-2 c κs = search needs
 
 put-u16-requires-3 : tie.Need-put-u16-requires-3
-put-u16-requires-3 c κs = omega (arith, ods-size-at (c .before .before .before .before .before .before .before .before .before .before .before .before .before .before .before .before .before .before .before .before .before .before .before .before .before .args .o) (c .before .before .before .before .before .before .dimensions .given .1), c .before .before .before .put-u162 .kept .0, c .before .before .before .before .before .before .before .before .before .before .put-u24 .kept .0, c .before .before .before .before .before .before .before .before .before .before .before .before .before .before .put-u82 .kept .0, c .before .before .before .before .before .before .before .before .before .before .before .before .before .before .before .before .before .before .put-u8 .kept .0, c .before .before .before .before .before .before .before .before .before .before .before .before .before .before .before .before .before .before .before .before .before .before .put-u16 .kept .0, c .before .before .before .before .before .before .before .before .before .before .before .before .before .before .before .before .before .before .before .before .before .before .before .before .before .pre)
+put-u16-requires-3 c κs = search needs
 
 same-length : tie.Need-same-length
 same-length c = search needs

@@ -1,8 +1,8 @@
 -- `encode_other` tests the size and the kind, then the room, then stores head and data.
 -- Assumes nothing.
-use Rattle.pgs_writer.proofs.WriteLaws.{body-refused, size-refused, writable-body, encode-size, encoded, write-35, write-34, write-all}
+use Rattle.pgs_writer_base.proofs.WriteLaws.{body-refused, size-refused, writable-body, encode-size, encoded, write-35, write-34, write-all}
 use Rattle.pgs_writer.proofs.other.encode_other.Statement.{statement}
-use Rattle.pgs_writer.specs.Kinds.{otherSegment}
+use Rattle.pgs_writer_base.specs.Kinds.{otherSegment}
 use borrow.Author.Needs.{needs}
 use denote.Ref.{now}
 use mathlib.Core.Path.{refl, sym, _∙_}

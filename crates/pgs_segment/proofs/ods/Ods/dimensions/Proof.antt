@@ -2,7 +2,7 @@
 -- Assumes nothing.
 use Rattle.pgs_segment.proofs.OdsLaws.{head-first, present, absent}
 use Rattle.pgs_segment.proofs.ods.Ods.dimensions.Statement.{statement}
-use Rattle.pgs_base.specs.Fragments.{fragmentOf, isFirst}
+use Rattle.pgs_views.specs.Fragments.{fragmentOf, isFirst}
 use Rattle.pgs_segment.specs.OdsBody.{flagOf}
 use borrow.Author.Needs.{needs}
 use denote.Ref.{now}

@@ -6,7 +6,7 @@ use Rattle.pgs_base.specs.Outcome.{gives, outcomeOf, accepted}
 use Rattle.pgs_segment.proofs.SegmentLaws.{lent-verdict, lent-numbers, accepted-size, accepted-body}
 use Rattle.pgs_segment.proofs.segment.Segment.parse.Statement.{statement}
 use Rattle.pgs_segment.specs.Header.{sizeOf, kindOf}
-use Rattle.pgs_base.specs.Kinds.{typeOf}
+use Rattle.pgs_views.specs.Kinds.{typeOf}
 use Rattle.pgs_segment.specs.OneSegment.{segmentVerdict, frameOf, frameOutcome, segmentOf}
 use Rattle.pgs_segment.specs.declared.segment.Frame.{Frame}
 use borrow.Author.Needs.{needs}

@@ -4,7 +4,7 @@ use Prim.Native.Nat.{ℕ}
 use Rattle.pgs_base.specs.Outcome.{accepted}
 use Rattle.pgs_segment.proofs.segment.SegmentBody.numbers.Statement.{statement}
 use Rattle.pgs_segment.specs.Fields.{bodyVerdict, bodyOf, numbersOf}
-use Rattle.pgs_base.specs.declared.«segment_type».SegmentType.{SegmentType}
+use Rattle.pgs_views.specs.declared.«segment_type».SegmentType.{SegmentType}
 use Rattle.pgs_segment.specs.declared.segment.SegmentBody.{SegmentBody}
 use borrow.Author.Needs.{needs}
 use denote.Ref.{now}

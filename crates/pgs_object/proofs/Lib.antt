@@ -1,0 +1,10 @@
+pub mod ChainLaws
+pub mod EachLaws
+pub mod FindLaws
+pub mod FragmentLaws
+pub mod JoinLaws
+pub mod ListingLaws
+pub mod Lists
+pub mod ObjectLaws
+pub mod TableLaws
+pub mod ViewLaws

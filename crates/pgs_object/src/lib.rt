@@ -1,0 +1,6 @@
+mod chain;
+mod finding;
+mod joining;
+mod listing;
+pub mod object;
+mod walk;

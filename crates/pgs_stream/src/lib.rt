@@ -1,0 +1,2 @@
+// The stream: all segments, one after another.
+pub mod stream;
