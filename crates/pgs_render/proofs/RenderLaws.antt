@@ -157,7 +157,7 @@ module _ (k : ℕ) (s : List ℕ) where
         ∙ (λ j. laid (andThen (l .taken j) (unless 34 (le-leb (length (joinedData (objectsOf k s))) (length scratch) room j))) (joinedData (objectsOf k s)) scratch)
 
     -- 24 to 33
-    pub reads-content : {pcs : Pcs} {placements : List (List ℕ)} → Placed k s pcs placements → {scratch scratch′ : List ℕ}
+    pub reads-content : {placements : List (List ℕ)} → placements ≡ map placementRow (placementsIn (setNumber k s)) → {scratch scratch′ : List ℕ}
         → scratch′ ≡ laid accepted (joinedData (objectsOf k s)) scratch
         → {v : Verdict} → v ≡ andThen (rowsReading s scratch′ rows) (unless 33 (allPresent rows placements))
         → JoinedAndRead k s scratch scratch′ v
@@ -165,7 +165,7 @@ module _ (k : ℕ) (s : List ℕ) where
         record {
           content =
               q
-              ∙ (λ j. andThen (rowsReading s scratch′ (l .objects j)) (unless 33 (allPresent (l .objects j) (p .records j))))
+              ∙ (λ j. andThen (rowsReading s scratch′ (l .objects j)) (unless 33 (allPresent (l .objects j) (p j))))
               ∙ (λ j. andThen (reading-of s scratch′ 0 (objectsOf k s) (data-shown scratch e) j) (present-of 0 (objectsOf k s) (placementsIn (setNumber k s)) j));
           joined = e;
         }

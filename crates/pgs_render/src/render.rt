@@ -19,16 +19,18 @@ use pgs_set::object::list_objects;
 use pgs_set::set::SetAnswer;
 use pgs_set::set::find_set;
 ghost use mathlib.Core.Path.{_≡_};
+ghost use mathlib.Core.List.{map};
 ghost use Prim.Native.Nat.{_≤_};
 ghost use lib.ListN.{length};
 ghost use Rattle.pgs_base.specs.Outcome.{outcomeOf};
 ghost use Rattle.pgs_bitmap.specs.Decoding.{outcome};
 ghost use Rattle.pgs_color.specs.Bytes.{rgbOf};
 ghost use Rattle.pgs_segment.specs.Header.{ptsOf};
+ghost use Rattle.pgs_segment.specs.PcsBody.{placementRow};
 ghost use Rattle.pgs_set.specs.Objects.{objectsOf, objectsVerdict, setNumber};
 ghost use Rattle.pgs_set.specs.Reassembly.{joinedData};
 ghost use Rattle.pgs_set.specs.Walks.{SetStands};
-ghost use Rattle.pgs_render.specs.Rendering.{Rendered, answerOf, renderOutcome};
+ghost use Rattle.pgs_render.specs.Rendering.{Rendered, placementsIn, answerOf, renderOutcome};
 ghost use Rattle.pgs_render.specs.Steps.{
   Listed,
   Opened,
@@ -52,13 +54,12 @@ pub enum RenderAnswer {
 fn join_and_read(
     s: &[u8],
     set: usize,
-    pcs: Pcs,
     rows: &[[u64; 7]],
     placements: &[[u16; 10]],
     scratch: &mut [u8],
 ) -> Decoded
     requires { ⌜ Listed set (now s) (now rows) ⌝ }
-    requires { ⌜ Placed set (now s) pcs (now placements) ⌝ }
+    requires { ⌜ now placements ≡ map placementRow (placementsIn (setNumber set (now s))) ⌝ }
     requires { ⌜ length (joinedData (objectsOf set (now s))) ≤ length (now scratch) ⌝ }
     ensures { λ r. ⌜ JoinedAndRead set (now (s .entry)) (now (scratch .entry)) (now (scratch .exit)) (outcome r) ⌝ }
 {
@@ -66,7 +67,8 @@ fn join_and_read(
     check_content(s, &scratch[..], rows, placements)
 }
 
-// Stores the bitmaps after the joined data, and paints: nothing here can fail. `from` is the place after the PCS, `joined` is J.
+// Stores the bitmaps after the joined data, and paints: nothing here can fail. `from` is the place after the PCS, `joined` is J; the
+// set's number is there for the contract.
 fn show(
     s: &[u8],
     set: usize,
@@ -122,7 +124,7 @@ fn render_set(
     if plane.len() < 4 * (pcs.width as usize) * (pcs.height as usize) {
         return Decoded::Refused(Refusal::BufferTooSmall);
     }
-    match join_and_read(s, set, pcs, rows, placements, scratch) {
+    match join_and_read(s, set, rows, placements, scratch) {
         Decoded::Refused(why) => Decoded::Refused(why),
         Decoded::Accepted => {
             let joined = joined_total(rows);

@@ -35,7 +35,7 @@ returns-2 : tie.Need-returns-2
 returns-2 c = renders-none (c .before .before .before .before .before .before .before .before .args .set) (now (c .before .before .before .before .before .before .before .before .args .s)) (plane-short (c .before .before .before .before .before .before .before .before .args .set) (now (c .before .before .before .before .before .before .before .before .args .s)) (c .before .before .before .before .before .before .before .before .pre .0) (now (c .before .before .before .before .before .before .before .before .args .scratch)) (now (c .before .before .before .before .before .before .before .before .args .plane)) (c .before .before .before .before .objects-fit .ensures) (not-false _ (c .before .before .before .if1 .left)) (c .before .before .before .before .before .before .before .before .pre .1 .1) (c .if2 .taken))
 
 join-and-read-requires : tie.Need-join-and-read-requires
-join-and-read-requires c κs = (c .before .before .before .before .before .before .before .before .before .pre .0, (c .before .before .before .before .before .before .before .before .before .pre .1 .1, omega (arith, scratch-room (c .before .before .before .before .before .before .before .before .before .args .set) (now (c .before .before .before .before .before .before .before .before .before .args .s)) (c .before .before .before .before .before .before .before .before .before .pre .0) (now (c .before .before .before .before .before .before .before .before .before .args .scratch)) (now (c .before .before .before .before .before .before .before .before .before .args .plane)) (c .before .before .before .before .before .objects-fit .ensures) (not-false _ (c .before .before .before .before .if1 .left)))))
+join-and-read-requires c κs = (c .before .before .before .before .before .before .before .before .before .pre .0, (c .before .before .before .before .before .before .before .before .before .pre .1 .1 .records, omega (arith, scratch-room (c .before .before .before .before .before .before .before .before .before .args .set) (now (c .before .before .before .before .before .before .before .before .before .args .s)) (c .before .before .before .before .before .before .before .before .before .pre .0) (now (c .before .before .before .before .before .before .before .before .before .args .scratch)) (now (c .before .before .before .before .before .before .before .before .before .args .plane)) (c .before .before .before .before .before .objects-fit .ensures) (not-false _ (c .before .before .before .before .if1 .left)))))
 
 enum-known-why : tie.Need-enum-known-why
 enum-known-why c = search needs
@@ -47,7 +47,7 @@ joined-total-requires : tie.Need-joined-total-requires
 joined-total-requires c κs = omega (arith, listed-total (c .before .before .before .before .before .before .before .before .before .before .before .before .before .before .args .set) (now (c .before .before .before .before .before .before .before .before .before .before .before .before .before .before .args .s)) (c .before .before .before .before .before .before .before .before .before .before .before .before .before .before .pre .0), scratch-room (c .before .before .before .before .before .before .before .before .before .before .before .before .before .before .args .set) (now (c .before .before .before .before .before .before .before .before .before .before .before .before .before .before .args .s)) (c .before .before .before .before .before .before .before .before .before .before .before .before .before .before .pre .0) (now (c .before .before .before .before .before .before .before .before .before .before .before .before .before .before .args .scratch)) (now (c .before .before .before .before .before .before .before .before .before .before .before .before .before .before .args .plane)) (c .before .before .before .before .before .before .before .before .before .before .objects-fit .ensures) (not-false _ (c .before .before .before .before .before .before .before .before .before .if1 .left)), c .before .before .before .before .before .before .before .before .before .before .before .before .before .before .good .1 .1 .1 .1 .1 .1 .0 .0)
 
 show-requires : tie.Need-show-requires
-show-requires c κs = (c .before .before .before .before .before .before .before .before .before .before .before .before .before .before .before .before .before .pre .0, (c .before .before .before .before .before .before .before .before .before .before .before .before .before .before .before .before .before .pre .1 .0, (c .before .before .before .before .before .before .before .before .before .before .before .before .before .before .before .before .before .pre .1 .1, readied (c .before .before .before .before .before .before .before .before .before .before .before .before .before .before .before .before .before .args .set) (now (c .before .before .before .before .before .before .before .before .before .before .before .before .before .before .before .before .before .args .s)) (c .before .before .before .before .before .before .before .before .before .before .before .before .before .before .before .before .before .pre .0) (now (c .before .before .before .before .before .before .before .before .before .before .before .before .before .before .before .before .before .args .scratch)) (now (c .before .before .before .before .before .before .before .before .before .before .before .before .before .before .before .before .before .args .plane)) (c .before .before .before .before .before .before .before .before .before .before .before .before .before .objects-fit .ensures) (not-false _ (c .before .before .before .before .before .before .before .before .before .before .before .before .if1 .left)) (c .before .before .before .before .before .before .before .before .before .before .before .before .before .before .before .before .before .pre .1 .1) (c .before .before .before .before .before .before .before .before .before .if2 .left) (c .before .before .before .before .before .before .before .join-and-read .ensures) (ap outcome (c .before .before .before .enum-told .given .1)) (c .before .before .before .before .before .before .before .join-and-read .kept .1 .1 .1 .1 .1 .0) (c .before .before .joined-total .ensures))))
+show-requires c κs = (c .before .before .before .before .before .before .before .before .before .before .before .before .before .before .before .before .before .pre .0, (c .before .before .before .before .before .before .before .before .before .before .before .before .before .before .before .before .before .pre .1 .0, (c .before .before .before .before .before .before .before .before .before .before .before .before .before .before .before .before .before .pre .1 .1, readied (c .before .before .before .before .before .before .before .before .before .before .before .before .before .before .before .before .before .args .set) (now (c .before .before .before .before .before .before .before .before .before .before .before .before .before .before .before .before .before .args .s)) (c .before .before .before .before .before .before .before .before .before .before .before .before .before .before .before .before .before .pre .0) (now (c .before .before .before .before .before .before .before .before .before .before .before .before .before .before .before .before .before .args .scratch)) (now (c .before .before .before .before .before .before .before .before .before .before .before .before .before .before .before .before .before .args .plane)) (c .before .before .before .before .before .before .before .before .before .before .before .before .before .objects-fit .ensures) (not-false _ (c .before .before .before .before .before .before .before .before .before .before .before .before .if1 .left)) (c .before .before .before .before .before .before .before .before .before .before .before .before .before .before .before .before .before .pre .1 .1) (c .before .before .before .before .before .before .before .before .before .if2 .left) (c .before .before .before .before .before .before .before .join-and-read .ensures) (ap outcome (c .before .before .before .enum-told .given .1)) (c .before .before .before .before .before .before .before .join-and-read .kept .1 .1 .1 .1 .0) (c .before .before .joined-total .ensures))))
 
 same-length : tie.Need-same-length
 same-length c = search needs
