@@ -9,8 +9,8 @@ mod write;
 use libc::STDIN_FILENO;
 use pgs_base::number::u16_of;
 
-// Which call an input is for; a and b are its numbers.
-fn replay(call: u8, a: u16, b: u16, input: &[u8]) {
+// The calls that read; a and b are the numbers of an input.
+fn replay_reading(call: u8, a: u16, b: u16, input: &[u8]) {
     if call == b'S' {
         read::segments(input);
     }
@@ -44,6 +44,10 @@ fn replay(call: u8, a: u16, b: u16, input: &[u8]) {
     if call == b'Y' {
         read::color(input);
     }
+}
+
+// The calls that write.
+fn replay_writing(call: u8, a: u16, input: &[u8]) {
     if call == b'R' {
         write::segments(input, a);
     }
@@ -65,6 +69,11 @@ fn replay(call: u8, a: u16, b: u16, input: &[u8]) {
     if call == b'c' {
         write::pds(input, a);
     }
+}
+
+fn replay(call: u8, a: u16, b: u16, input: &[u8]) {
+    replay_reading(call, a, b, input);
+    replay_writing(call, a, input);
 }
 
 // Replays the first `len` bytes of a buffer.

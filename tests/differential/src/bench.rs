@@ -34,6 +34,10 @@ pub fn run(seed: u64) {
     row("painting a set, 1920 by 1080", painting(&sentence(&mut p)));
     row("browsing: an hour, 100 planes", browsing(&hour, 100));
 
+    let (walk, once) = (walking(&hour), walking(&hour[..hour.len() / LARGEST]));
+    println!("\nof this, one bare walk from head to head of the hour takes {:.3} ms,", millis(walk));
+    println!("of a {LARGEST}th of it {:.4} ms: past the cache each head is a memory access", millis(once));
+
     println!("\nas the input grows: milliseconds of the library, ratio; how often the time of 1 x, at {LARGEST} x\n");
     let heads = STEPS.map(|step| format!("{step:>13} x"));
     println!("{:22} {} {:>10} {:>10}", "", heads.join(" "), "library", "Rust");
@@ -104,6 +108,18 @@ fn growth(name: &str, measure: impl Fn(usize) -> Times) {
 
 fn millis(time: Duration) -> f64 {
     time.as_secs_f64() * 1e3
+}
+
+/// The least that a pass over a stream can take: its heads' sizes, one after another.
+fn walking(stream: &[u8]) -> Duration {
+    let walk = || {
+        let mut at = 0;
+        while let Some(size) = stream.get(at + 11..at + 13) {
+            at += 13 + u16::from_be_bytes([size[0], size[1]]) as usize;
+        }
+        black_box(at);
+    };
+    timed(walk, || {}).library
 }
 
 fn reading(stream: &[u8]) -> Times {

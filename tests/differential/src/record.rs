@@ -173,12 +173,7 @@ impl Call {
                 Ok(record) => format!("ods accepted{}", row(&record)),
                 Err(number) => format!("ods refused {number}"),
             },
-            b'G' => {
-                let sets = sets::oracle::sets(input);
-                let records: sets::WantedSets =
-                    sets.map(|sets| ([], sets.iter().map(|set| set.record).collect()));
-                list("sets", 3, &records, |_| String::new())
-            }
+            b'G' => list("sets", 3, &set_records(input), |_| String::new()),
             b'J' => objects(input, a as usize),
             b'L' => buffer("cards", 71, &cards(input), |n| format!(" {n}")),
             b'B' => buffer("bitmap", 20, &bitmap::decoded(a, b, input), |_| String::new()),
@@ -188,17 +183,7 @@ impl Call {
             }
             b'I' => plane(input, a as usize),
             b'R' => writes(input, a as usize),
-            letter => {
-                let (_, writer, room) = WRITERS.into_iter().find(|w| w.0 == letter).expect("a call's letter");
-                let mut fields = Fields::from_input(&[&[writer], input].concat()).expect("fields");
-                match &mut fields.body {
-                    Body::Pcs(_, list) => list.truncate(a as usize),
-                    Body::Wds(list) => list.truncate(a as usize),
-                    Body::Pds(_, list) => list.truncate(a as usize),
-                    _ => {}
-                }
-                buffer("write", room, &writer::oracle::written(&fields), |n| format!(" {n}"))
-            }
+            letter => write(letter, a as usize, input),
         };
         line + "\n"
     }
@@ -341,6 +326,24 @@ fn palette(named: u8, body: &[u8]) -> String {
         let colors: Vec<String> = table.chunks(4).take(4).map(row).collect();
         format!(", {id} {version} done done{}", colors.concat())
     })
+}
+
+fn set_records(stream: &[u8]) -> sets::WantedSets {
+    let sets = sets::oracle::sets(stream)?;
+    Ok(([], sets.iter().map(|set| set.record).collect()))
+}
+
+/// A segment written from its fields; of a list the first `records`.
+fn write(letter: u8, records: usize, input: &[u8]) -> String {
+    let (_, writer, room) = WRITERS.into_iter().find(|w| w.0 == letter).expect("the letter of a call");
+    let mut fields = Fields::from_input(&[&[writer], input].concat()).expect("fields");
+    match &mut fields.body {
+        Body::Pcs(_, list) => list.truncate(records),
+        Body::Wds(list) => list.truncate(records),
+        Body::Pds(_, list) => list.truncate(records),
+        Body::Ods(..) | Body::End | Body::Other(..) => {}
+    }
+    buffer("write", room, &writer::oracle::written(&fields), |n| format!(" {n}"))
 }
 
 /// The objects of a set: a list of 3 records, and a scratch of 12 bytes.
