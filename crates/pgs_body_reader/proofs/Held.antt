@@ -10,7 +10,7 @@ use base.Logic.{ent, sep}
 use base.Fml.{Fml}
 use prog.Wp.{Heap}
 use ghost.Atoms.{Atoms, sem}
-use types.Kit.{Given, ‵, _⊛_, given, _$_, _∵_, !, qed, by, move, drop, use1, split, learn, frame, done}
+use types.Kit.{Given, ‵, _⊛_, given, _$_, _∵_, !, qed, by, move, drop, use1, split, learn, done}
 use denote.Laws.{Is}
 use denote.Plain.{uint-makes}
 use denote.Builtin.{u8, usize}

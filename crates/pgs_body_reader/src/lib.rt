@@ -9,7 +9,7 @@ ghost use Prim.Native.Nat.{_-_, _<_};
 ghost use lib.ListN.{length, drop};
 ghost use Rattle.pgs_base.specs.Cursor.{outcome, takenAt};
 ghost use Rattle.pgs_body_reader.specs.Reader.{Taking, atStart, leftOf, Reads, Rests};
-ghost use Rattle.pgs_body_reader.specs.Fragment.{Headed};
+ghost use Rattle.pgs_body_reader.specs.Fragment.{placeFrom, headWidths, Headed};
 
 pub struct BodyReader<'a> {
     buf: &'a [u8],
@@ -147,4 +147,16 @@ pub fn fragment_head(body: &[u8]) -> FragmentHead
         declared_length,
         left,
     }
+}
+
+// The data of a fragment that is not the first: the rest after its head, through a reader.
+pub fn fragment_data<'a>(body: &'a [u8]) -> &'a [u8]
+    ensures { λ r. ⌜ now r ≡ drop (placeFrom headWidths 0 (now (body .entry))) (now (body .entry)) ⌝ }
+{
+    let mut reader = BodyReader::new(body);
+    reader.u16();
+    reader.u8();
+    reader.u8();
+    reader.u24();
+    reader.rest()
 }
