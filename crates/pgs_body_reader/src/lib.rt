@@ -23,7 +23,7 @@ pub enum Field {
 }
 
 // What a read answers, and the position after it.
-pub struct Step {
+struct Step {
     pub field: Field,
     pub next: usize,
 }
@@ -37,6 +37,7 @@ pub struct FragmentHead {
     pub left: usize,
 }
 
+// Reads 1, 2 or 3 bytes by the cursor.
 fn take(cursor: BodyCursor, buf: &[u8], width: usize) -> Taken
     requires { ⌜ (0 < width) × (width < 4) ⌝ }
     ensures { λ r. ⌜ outcome r ≡ takenAt width (cursor .pos) (now (buf .entry)) ⌝ }
