@@ -201,7 +201,7 @@ module _ {M : Type 1} (𝓤 : URA M) (H : Heap 𝓤) (A : Atoms 𝓤) (W : Given
           ∷ ‵ (fat fullShare word l₅ 0 (vint w64 (t .at))) ∷ ‵ (fdies word l₅) ∷ ‵ (fat fullShare word l₄ 0 (vint w64 (t .i))) ∷ ‵ (fdies word l₄) ∷ ‵ (fat fullShare word l₃ 0 (vint w64 n)) ∷ ‵ (fdies word l₃)
           ∷ ‵ (fat fullShare listTy l₂ 0 vl) ∷ ‵ (fdies listTy l₂) ∷ ‵ (fat fullShare streamTy l₁ 0 v) ∷ ‵ (fdies streamTy l₁) ∷ ‵ (froom tyUnit l₀ 0) ∷ ‵ (fdies tyUnit l₀) ∷ []
 
-      -- a turn's postcondition: it ends nearer to n, or the loop is left and the rest of the body runs
+      -- how a turn ends: in a state with fewer records to store, or out of the loop, where the last statements run
       abbrev Turned : Step → Out → SProp 𝓤
       Turned t = afterTurn 𝓤 H (Below 𝓤 H A Nearer At t) (afterBlock 𝓤 H (afterSeq 𝓤 H (Wp 𝓤 H (𝓣 .C) (𝓣 .Λ) En after (atReturn 𝓤 H En Post)) (atReturn 𝓤 H En Post)))
 
