@@ -1,5 +1,5 @@
-// Prints what the two forms that are proved by hand answer, for rt to compare with the file stdout: the head of a fragment through the
-// body reader, and the segments of a stream as structs in a list that was full of 9s before.
+// Prints what the two forms that are proved by hand answer, for rt to compare with the file stdout: the head and the data of a fragment
+// through the body reader, and the segments of a stream as structs in a list that was full of 9s before.
 use libc::STDOUT_FILENO;
 use pgs_body_reader::Field;
 use pgs_segment_list::SegmentRecord;
@@ -40,6 +40,21 @@ fn print_head(body: &[u8]) {
     print_field(declared_length);
     io::write_all(STDOUT_FILENO, b", left");
     print_number(head.left as u64);
+    print_line_end();
+}
+
+fn print_bytes(bytes: &[u8]) {
+    let mut i: usize = 0;
+    while i < bytes.len() {
+        print_number(bytes[i] as u64);
+        i += 1;
+    }
+}
+
+// The data of a fragment that is not the first.
+fn print_data(body: &[u8]) {
+    io::write_all(STDOUT_FILENO, b"data:");
+    print_bytes(pgs_body_reader::fragment_data(body));
     print_line_end();
 }
 
@@ -100,6 +115,9 @@ fn main() {
     print_head(&[0, 7, 1, 0xC0, 0, 0, 6]);
     print_head(&[0, 7, 1, 0xC0, 1, 2]);
     print_head(&[5]);
+    print_data(&[0, 7, 1, 0x40, 0, 0, 6, 2, 3]);
+    print_data(&[0, 7, 1, 0x40, 0, 0, 6]);
+    print_data(&[0, 7, 1, 0x40, 8, 9]);
     let one = [
         0x50,
         0x47,

@@ -1,12 +1,12 @@
--- Four reads one after another, and what is left, are the head of a fragment. Assumes nothing.
+-- Four reads one after another, and what is left, are the head of a fragment; the rest after them is its data. Assumes nothing.
 use mathlib.Core.Path.{_≡_, ap, _∙_}
 use Prim.Native.Nat.{ℕ, _-_}
 use mathlib.Core.List.{List, [], _∷_}
-use lib.ListN.{length}
+use lib.ListN.{length, drop}
 use denote.Ref.{RefT, now}
 use Rattle.pgs_cursor.specs.Cursor.{takenAt}
-use Rattle.pgs_body_reader.specs.Fragment.{Headed}
-use Rattle.pgs_body_reader.specs.Reader.{fieldOutcome, numberOr, placeOr, atStart, leftOf, Reads}
+use Rattle.pgs_body_reader.specs.Fragment.{placeFrom, headWidths, Headed}
+use Rattle.pgs_body_reader.specs.Reader.{fieldOutcome, numberOr, placeOr, atStart, leftOf, Reads, Rests}
 use Rattle.pgs_body_reader.specs.declared.BodyReader.{BodyReader}
 use Rattle.pgs_body_reader.specs.declared.Field.{Field}
 use Rattle.pgs_body_reader.specs.declared.FragmentHead.{FragmentHead}
@@ -44,3 +44,10 @@ headed at e₁ e₂ e₃ e₄ e =
       fields = λ i. answers at e₁ i ∷ answers at₁ e₂ i ∷ answers at₂ e₃ i ∷ answers at₃ e₄ i ∷ [];
       left = e ∙ (λ i. length (now (at₄ .body i)) - at₄ .place i);
     }
+
+-- the rest after the head
+pub rested : {s : RefT (List ℕ)} {h h₁ h₂ h₃ h₄ h₅ : BodyReader} {a b c d : Field} {part : List ℕ} → At s 0 h → Reads 2 h h₁ a → Reads 1 h₁ h₂ b → Reads 1 h₂ h₃ c → Reads 3 h₃ h₄ d → Rests h₄ h₅ part
+    → part ≡ drop (placeFrom headWidths 0 (now s)) (now s)
+rested at e₁ e₂ e₃ e₄ e =
+    let at₄ = moves (moves (moves (moves at e₁) e₂) e₃) e₄ in
+    e .given ∙ (λ i. drop (at₄ .place i) (now (at₄ .body i)))

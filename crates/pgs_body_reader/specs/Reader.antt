@@ -11,7 +11,6 @@ use Rattle.pgs_base.specs.Refusals.{numberOf}
 use Rattle.pgs_body_reader.specs.declared.BodyReader.{BodyReader}
 use Rattle.pgs_body_reader.specs.declared.Field.{Field}
 use Rattle.pgs_body_reader.specs.declared.Field.the-variants.{Number, Refused}
-use Rattle.pgs_body_reader.specs.declared.Step.{Step}
 
 -- a number that was read, or why there is none
 abbrev pub fieldOutcome : Field → Outcome ℕ

@@ -9,7 +9,7 @@ ghost use Prim.Native.Nat.{_-_, _<_};
 ghost use lib.ListN.{length, drop};
 ghost use Rattle.pgs_cursor.specs.Cursor.{outcome, takenAt};
 ghost use Rattle.pgs_body_reader.specs.Reader.{Taking, atStart, leftOf, Reads, Rests};
-ghost use Rattle.pgs_body_reader.specs.Fragment.{Headed};
+ghost use Rattle.pgs_body_reader.specs.Fragment.{placeFrom, headWidths, Headed};
 
 pub struct BodyReader<'a> {
     buf: &'a [u8],
@@ -23,7 +23,7 @@ pub enum Field {
 }
 
 // What a read answers, and the position after it.
-pub struct Step {
+struct Step {
     pub field: Field,
     pub next: usize,
 }
@@ -37,6 +37,7 @@ pub struct FragmentHead {
     pub left: usize,
 }
 
+// Reads 1, 2 or 3 bytes by the cursor.
 fn take(cursor: BodyCursor, buf: &[u8], width: usize) -> Taken
     requires { ⌜ (0 < width) × (width < 4) ⌝ }
     ensures { λ r. ⌜ outcome r ≡ takenAt width (cursor .pos) (now (buf .entry)) ⌝ }
@@ -147,4 +148,16 @@ pub fn fragment_head(body: &[u8]) -> FragmentHead
         declared_length,
         left,
     }
+}
+
+// The data of a fragment that is not the first: the rest after its head, through a reader.
+pub fn fragment_data<'a>(body: &'a [u8]) -> &'a [u8]
+    ensures { λ r. ⌜ now r ≡ drop (placeFrom headWidths 0 (now (body .entry))) (now (body .entry)) ⌝ }
+{
+    let mut reader = BodyReader::new(body);
+    reader.u16();
+    reader.u8();
+    reader.u8();
+    reader.u24();
+    reader.rest()
 }

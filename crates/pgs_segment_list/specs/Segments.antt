@@ -2,7 +2,7 @@
 -- filled from the front (place, PTS, DTS, kind, body length)." They are the rows of `segmentRows`, a field for a cell.
 use Prim.Native.Nat.{ℕ, _+_}
 use mathlib.Core.Path.{_≡_}
-use mathlib.Core.List.{List, [], _∷_, map}
+use mathlib.Core.List.{List, map}
 use lib.ListN.{getD}
 use Rattle.pgs_base.specs.Outcome.{Verdict, accepted, refused, outcomeOf, andThen, needing}
 use Rattle.pgs_segment.specs.OneSegment.{usedBy}

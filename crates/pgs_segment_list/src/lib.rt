@@ -31,13 +31,13 @@ pub struct SegmentRecord {
 }
 
 // The record of a segment, and the place after it.
-pub struct Placed {
+struct Placed {
     pub segment: SegmentRecord,
     pub next: usize,
 }
 
 // What a call answers, and how many records it stores: none where it is refused.
-pub struct Plan {
+struct Plan {
     pub answer: StreamAnswer,
     pub stored: usize,
 }

@@ -1,7 +1,6 @@
 -- `read_at` hands on what the cursor's read gives, with the position after it.
 -- Assumes nothing.
 use mathlib.Core.Path.{sym, ap, _∙_}
-use denote.Ref.{now}
 use borrow.Author.Needs.{needs}
 use Rattle.pgs_cursor.specs.Cursor.{outcome}
 use Rattle.pgs_body_reader.specs.Reader.{numberOr, placeOr}

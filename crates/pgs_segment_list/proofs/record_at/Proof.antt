@@ -1,7 +1,6 @@
 -- `record_at` reads the head of the segment at a place.
 -- Assumes nothing.
 use mathlib.Core.Path.{sym, ap, _∙_}
-use native.Mathlib.Omega.{arith}
 use denote.Ref.{now}
 use lib.ListN.{drop}
 use borrow.Author.Needs.{needs}

@@ -1,0 +1,53 @@
+-- `print_bytes` prints each byte. The measure is what is left of them.
+-- Assumes nothing.
+use Prim.Native.Nat.{_-_}
+use native.Mathlib.Omega.{arith}
+use lib.ListN.{length}
+use borrow.Author.Needs.{needs}
+use Rattle.form_samples.proofs.print_bytes.Statement.{statement}
+use Rattle.form_samples.proofs.print_bytes.Tie as tie
+
+abbrev Inv-loop : tie.InvT-loop
+Inv-loop bytes i₀ i = Unit {0}
+
+abbrev μ-loop : tie.MeasureT-loop
+μ-loop bytes i₀ i = length bytes - i
+
+loop-holds : tie.Need-loop-holds Inv-loop μ-loop
+loop-holds c = tt
+
+shared-slice-read-print-number : tie.Need-shared-slice-read-print-number Inv-loop μ-loop
+shared-slice-read-print-number c = omega arith
+
+cast-print-number : tie.Need-cast-print-number Inv-loop μ-loop
+cast-print-number c = omega (arith, c .shared-slice-known2 .given (c .before .before .loop .i))
+
+print-number-requires : tie.Need-print-number-requires Inv-loop μ-loop
+print-number-requires c κs = search needs
+
+add-i : tie.Need-add-i Inv-loop μ-loop
+add-i c = omega arith
+
+loop-less : tie.Need-loop-less Inv-loop μ-loop
+loop-less c = omega arith
+
+loop-again : tie.Need-loop-again Inv-loop μ-loop
+loop-again c = tt
+
+returns : tie.Need-returns Inv-loop μ-loop
+returns c = search needs
+
+pub print-bytes-spec : {M : Type 1} → statement M
+print-bytes-spec =
+    tie.close
+    (tie.spec
+    Inv-loop
+    μ-loop
+    loop-holds
+    shared-slice-read-print-number
+    cast-print-number
+    print-number-requires
+    add-i
+    loop-less
+    loop-again
+    returns)
