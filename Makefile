@@ -1,5 +1,5 @@
 # The commands of this repository; the README says more of each.
-.PHONY: cards test check diff bench fmt
+.PHONY: cards test check diff exhaustive bench fmt
 
 # A line for each display set of the stream FILE. What changed since the last time is proved first.
 FILE = samples/one-set.sup
@@ -20,6 +20,10 @@ check:
 # The comparison alone; words for it in ARGS, as ARGS="stream 50 47 00 .."
 diff:
 	tests/differential/run $(ARGS)
+
+# Every bitmap data of up to 4 bytes; some 30 minutes of one core. Part of it: ARGS="00 3F", first bytes from and to.
+exhaustive:
+	tests/differential/run exhaustive $(ARGS)
 
 # Times of the library and of the published Rust on the same inputs.
 bench:
