@@ -28,21 +28,21 @@ pub enum CodeAt {
 }
 
 // A byte as a number; its bound spares each caller a proof.
-fn wide(x: u8) -> usize
+pub(crate) fn wide(x: u8) -> usize
     ensures { λ r. ⌜ (r ≡ x) × (r < 256) ⌝ }
 {
     x as usize
 }
 
 // A run of pixels of one color, and the bytes that its code takes.
-pub(crate) struct Run {
-    pub(crate) count: usize,
-    pub(crate) color: u8,
-    pub(crate) taken: usize,
+struct Run {
+    count: usize,
+    color: u8,
+    taken: usize,
 }
 
 // The length of a long run.
-fn long_count(low: usize, third: u8) -> usize
+pub(crate) fn long_count(low: usize, third: u8) -> usize
     requires { ⌜ low < 64 ⌝ }
     ensures { λ r. ⌜ r ≡ 256 * low + third ⌝ }
 {
@@ -68,7 +68,7 @@ fn third_color(second: u8, third: u8) -> u8
 }
 
 // The run of 00, this second byte and, where its code takes so many, these two more. Runs are told apart by the bytes that they take.
-pub(crate) fn run_of(second: u8, third: u8, fourth: u8) -> Run
+fn run_of(second: u8, third: u8, fourth: u8) -> Run
     ensures { λ r. ⌜ found (run (r .count) (r .color)) (r .taken) ≡ runOf second (third ∷ fourth ∷ []) ⌝ }
 {
     let low = wide(second % 64);
