@@ -16,6 +16,12 @@ pub record Reached (bytes : List ℕ) (width height lines column at : ℕ) (v : 
   pub narrow : column ≤ width
   pub same : readOn width height lines column (drop at bytes) .verdict ≡ v
 
+-- the place after a run of so many pixels, whose code takes so many bytes; 24 where it passes the width
+abbrev pub Ran : (width lines column at count taken : ℕ) → Step → Type 0
+Ran width lines column at count taken (To p) =
+    (column + count ≤ width) × (p .lines ≡ lines) × (p .column ≡ column + count) × (p .at ≡ at + taken)
+Ran width lines column at count taken (Refused why) = (width < column + count) × (numberOf why ≡ 24)
+
 -- one code further on, reading on comes to what it comes to here
 abbrev pub Stepped : List ℕ → (width height lines column at : ℕ) → Step → Type 0
 Stepped bytes width height lines column at (To p) =

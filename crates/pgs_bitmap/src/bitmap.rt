@@ -2,19 +2,20 @@
 use crate::code::NextCode;
 use crate::code::eight_literals;
 use crate::code::escape_at;
-use crate::code::literals_by_eight;
+use crate::code::literals_from;
 use crate::code::long_count;
 use crate::code::wide;
 use pgs_base::refusal::Refusal;
 ghost use mathlib.Core.Path.{_≡_};
 ghost use mathlib.Core.List.{_++_};
-ghost use Prim.Native.Nat.{_+_, _≤_, _<_};
+ghost use Prim.Native.Nat.{_+_, _^_, _≤_, _<_};
 ghost use lib.ListN.{length, getD, take, drop, replicate};
 ghost use Rattle.pgs_base.specs.Outcome.{unless};
 ghost use lib.Dec.{eqb};
+ghost use Rattle.pgs_bitmap.specs.RunLength.{lineEnd, found, codeOf};
 ghost use Rattle.pgs_bitmap.specs.Bitmap.{lastLineCounts, atEnd, readOn, readingOf, bitmapOf};
 ghost use Rattle.pgs_bitmap.specs.Decoding.{outcome, paddedTo, Decoding};
-ghost use Rattle.pgs_bitmap.specs.Progress.{Stepped, Literals, Filled, Storing, Stored};
+ghost use Rattle.pgs_bitmap.specs.Progress.{Ran, Stepped, Literals, Filled, Storing, Stored};
 
 // What reading a bitmap comes to.
 pub enum Decoded {
@@ -64,6 +65,53 @@ fn end_of_data(width: usize, height: usize, lines: usize, column: usize) -> Deco
     line_count(lines, height)
 }
 
+// Goes on after a run of so many pixels whose code takes so many bytes.
+fn pass_run(
+    width: usize,
+    lines: usize,
+    column: usize,
+    at: usize,
+    count: usize,
+    taken: usize,
+) -> Step
+    requires { ⌜ (column ≤ width) × (at + taken < 2 ^ 64) ⌝ }
+    ensures { λ r. ⌜ Ran width lines column at count taken r ⌝ }
+{
+    if width - column < count {
+        return Step::Refused(Refusal::RunPastWidth);
+    }
+    Step::To(Place {
+        lines: lines,
+        column: column + count,
+        at: at + taken,
+    })
+}
+
+// Goes on after the end of a line, which is the code at a place.
+fn end_line(
+    data: &[u8],
+    width: usize,
+    height: usize,
+    lines: usize,
+    column: usize,
+    at: usize,
+) -> Step
+    requires { ⌜ (codeOf (drop at (now «data»)) ≡ found lineEnd 2) × (at ≤ length (now «data»)) × (column ≤ width) × (lines ≤ height) × (height < 65536) ⌝ }
+    ensures { λ r. ⌜ Stepped (now («data» .entry)) width height lines column at r ⌝ }
+{
+    if column != width {
+        return Step::Refused(Refusal::ShortLine);
+    }
+    if height <= lines {
+        return Step::Refused(Refusal::TooManyLines);
+    }
+    Step::To(Place {
+        lines: lines + 1,
+        column: 0,
+        at: at + 2,
+    })
+}
+
 // Reads the code that begins with the byte 00 at a place, with so many lines ended and so many pixels after them.
 fn after_escape(
     data: &[u8],
@@ -82,31 +130,39 @@ fn after_escape(
             count,
             color: _,
             taken,
-        } => {
-            if width - column < count {
-                return Step::Refused(Refusal::RunPastWidth);
-            }
-            Step::To(Place {
-                lines: lines,
-                column: column + count,
-                at: at + taken,
-            })
-        }
-        NextCode::LineEnd => {
-            if column != width {
-                return Step::Refused(Refusal::ShortLine);
-            }
-            if height <= lines {
-                return Step::Refused(Refusal::TooManyLines);
-            }
-            Step::To(Place {
-                lines: lines + 1,
-                column: 0,
-                at: at + 2,
-            })
-        }
+        } => pass_run(width, lines, column, at, count, taken),
+        NextCode::LineEnd => end_line(data, width, height, lines, column, at),
         NextCode::Truncated(why) => Step::Refused(why),
     }
+}
+
+// The same where four bytes are left, so that none is missing. Each kind of run goes on by itself, which is faster.
+fn after_whole_escape(
+    data: &[u8],
+    width: usize,
+    height: usize,
+    lines: usize,
+    column: usize,
+    at: usize,
+) -> Step
+    requires { ⌜ (at + 4 ≤ length (now «data»)) × (getD (now «data») at 0 ≡ 0) × (column ≤ width) × (lines ≤ height) × (height < 65536) ⌝ }
+    ensures { λ r. ⌜ Stepped (now («data» .entry)) width height lines column at r ⌝ }
+{
+    let second = data[at + 1];
+    let low = wide(second % 64);
+    if 0x80 <= second {
+        if second < 0xC0 {
+            return pass_run(width, lines, column, at, low, 3);
+        }
+        return pass_run(width, lines, column, at, long_count(low, data[at + 2]), 4);
+    }
+    if second < 0x40 {
+        if second == 0 {
+            return end_line(data, width, height, lines, column, at);
+        }
+        return pass_run(width, lines, column, at, low, 2);
+    }
+    pass_run(width, lines, column, at, long_count(low, data[at + 2]), 3)
 }
 
 // Reads the codes from a place on, a code at a time, with so many lines ended and so many pixels after them.
@@ -149,8 +205,7 @@ fn check_rest(
 }
 
 // Reads the codes through. Bytes in a row that are one pixel each, `from` to `at`, are tested together where another code or the rest
-// follows them; after eight of them it looks for more by eights. Where four bytes are left, no code has bytes missing, which makes this
-// loop fast.
+// follows them. Where four bytes are left, no code has bytes missing, which makes this loop fast.
 fn check_codes(data: &[u8], width: usize, height: usize) -> Decoded
     requires { ⌜ height < 65536 ⌝ }
     ensures { λ r. ⌜ outcome r ≡ readingOf (now («data» .entry)) width height .verdict ⌝ }
@@ -161,15 +216,12 @@ fn check_codes(data: &[u8], width: usize, height: usize) -> Decoded
     let mut at: usize = 0;
     while 4 <= data.len() - at {
         if data[at] != 0 {
-            at += 1;
-            if at - from == 8 {
-                at += literals_by_eight(data, at);
-            }
+            at += literals_from(data, at);
         } else {
             if width - column < at - from {
                 return Decoded::Refused(Refusal::RunPastWidth);
             }
-            let step = after_escape(data, width, height, lines, column + (at - from), at);
+            let step = after_whole_escape(data, width, height, lines, column + (at - from), at);
             match step {
                 Step::To(place) => {
                     lines = place.lines;

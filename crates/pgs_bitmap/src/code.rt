@@ -192,7 +192,7 @@ pub(crate) fn eight_literals(data: &[u8], at: usize) -> bool
 }
 
 // So many bytes from a place on are one pixel each: counted by eights, up to an eight that has a byte 00.
-pub(crate) fn literals_by_eight(data: &[u8], at: usize) -> usize
+fn literals_by_eight(data: &[u8], at: usize) -> usize
     requires { ⌜ at ≤ length (now «data») ⌝ }
     ensures { λ r. ⌜ (at + r ≤ length (now («data» .entry))) × Literals (now («data» .entry)) at r ⌝ }
 {
@@ -206,4 +206,21 @@ pub(crate) fn literals_by_eight(data: &[u8], at: usize) -> usize
         }
     }
     n
+}
+
+// So many bytes from a place on are one pixel each, of which the first is: one by one up to the fourth, then by eights.
+pub(crate) fn literals_from(data: &[u8], at: usize) -> usize
+    requires { ⌜ (at + 4 ≤ length (now «data»)) × (getD (now «data») at 0 ≡ 0 → ⊥) ⌝ }
+    ensures { λ r. ⌜ (0 < r) × (at + r ≤ length (now («data» .entry))) × Literals (now («data» .entry)) at r ⌝ }
+{
+    if data[at + 1] == 0 {
+        return 1;
+    }
+    if data[at + 2] == 0 {
+        return 2;
+    }
+    if data[at + 3] == 0 {
+        return 3;
+    }
+    4 + literals_by_eight(data, at + 4)
 }
