@@ -1,5 +1,5 @@
 # The commands of this repository; the README says more of each.
-.PHONY: cards test check lib diff differential recorded bench fmt
+.PHONY: cards test check lib diff differential exhaustive recorded bench fmt
 
 # A line for each display set of the stream FILE. What changed since the last time is proved first.
 FILE = samples/one-set.sup
@@ -36,6 +36,10 @@ diff differential:
 # Answers of the published Rust, recorded for the program pgs_replay.
 recorded:
 	tests/differential/run record crates/pgs_replay
+
+# Every bitmap data of up to 4 bytes; some 30 minutes of one core. Part of it: ARGS="00 3F", first bytes from and to.
+exhaustive:
+	tests/differential/run exhaustive $(ARGS)
 
 # Times of the library and of the published Rust on the same inputs.
 bench:

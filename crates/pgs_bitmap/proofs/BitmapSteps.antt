@@ -13,7 +13,9 @@ use lib.Dec.{eqb}
 use Rattle.pgs_base.specs.Outcome.{Verdict, refused, unless}
 use Rattle.pgs_bitmap.specs.RunLength.{Code, run, lineEnd, FirstCode, none, found, truncated, codeOf, runOf, Codes, andFurther, codesOf, pixelsOf}
 use Rattle.pgs_bitmap.specs.Bitmap.{Reading, counted, stopped, lastLineCounts, atEnd, readFrom, readOn, readingOf, bitmapOf}
-use Rattle.pgs_bitmap.specs.Progress.{Reached}
+use Rattle.pgs_bitmap.specs.Progress.{Reached, Ran, Stepped}
+use Rattle.pgs_bitmap.specs.declared.bitmap.Step.{Step}
+use Rattle.pgs_bitmap.specs.declared.bitmap.Step.the-variants.{To, Refused}
 use Rattle.pgs_bitmap.proofs.AllCodes.{taken-bounds, codes-are}
 use Rattle.pgs_bitmap.proofs.Places.{left-none}
 use Rattle.pgs_bitmap.proofs.OneCode.{escape-line-end, escape-among, code-escape}
@@ -171,3 +173,11 @@ module _ {l : List ℕ} {width height lines column at : ℕ} {v : Verdict} where
 pub reached-step : {l : List ℕ} {width height lines column at lines′ column′ at′ : ℕ} {v : Verdict} → Reached l width height lines column at v
     → Reached l width height lines′ column′ at′ (readOn width height lines column (drop at l) .verdict) → Reached l width height lines′ column′ at′ v
 reached-step here there = record { within = there .within; few = there .few; narrow = there .narrow; same = there .same ∙ here .same }
+
+-- the step after a run
+pub ran-stepped : {l : List ℕ} {width height lines column at count color n : ℕ} (step : Step)
+    → Reached l width height lines column at (readOn width height lines column (drop at l) .verdict)
+    → codeOf (drop at l) ≡ found (run count color) n → Ran width lines column at count n step → Stepped l width height lines column at step
+ran-stepped {l} {at = at} (To p) here e ran =
+    (omega (arith, taken-at l at (here .within) e .0, ran .3), rw (ran .1, ran .2, ran .3) (reached-run here e (ran .0)))
+ran-stepped (Refused why) here e ran = ap refused (ran .1) ∙ reached-overrun here e (ran .0)

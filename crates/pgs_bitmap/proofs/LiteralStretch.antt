@@ -20,6 +20,13 @@ module _ (l : List ℕ) (at : ℕ) where
   pub literals-none : Literals l at 0
   literals-none k h = absurd (omega arith)
 
+  -- one byte more is nonzero
+  pub literals-next : (n : ℕ) → Literals l at n → (getD l (at + n) 0 ≡ 0 → ⊥) → Literals l at (n + 1)
+  literals-next n before nonzero = below-more (λ (k : ℕ). getD l (at + k) 0 ≡ 0 → ⊥) n before nonzero
+
+  pub literals-one : (getD l at 0 ≡ 0 → ⊥) → Literals l at 1
+  literals-one nonzero k h e = nonzero (subst (λ (i : ℕ). getD l i 0 ≡ 0) {x = at + k} {y = at} (omega arith) e)
+
   -- one byte more is tested
   pub literals-more : (n : ℕ) (all : Bool) → (all ≡ true → Literals l at n)
       → (all && not (eqb (getD l (at + n) 0) 0)) ≡ true → Literals l at (n + 1)

@@ -2,18 +2,20 @@
 use crate::code::NextCode;
 use crate::code::eight_literals;
 use crate::code::escape_at;
-use crate::code::literals_by_eight;
-use crate::code::run_of;
+use crate::code::literals_from;
+use crate::code::long_count;
+use crate::code::wide;
 use pgs_base::refusal::Refusal;
 ghost use mathlib.Core.Path.{_≡_};
 ghost use mathlib.Core.List.{_++_};
-ghost use Prim.Native.Nat.{_+_, _≤_, _<_};
+ghost use Prim.Native.Nat.{_+_, _^_, _≤_, _<_};
 ghost use lib.ListN.{length, getD, take, drop, replicate};
 ghost use Rattle.pgs_base.specs.Outcome.{unless};
 ghost use lib.Dec.{eqb};
+ghost use Rattle.pgs_bitmap.specs.RunLength.{lineEnd, found, codeOf};
 ghost use Rattle.pgs_bitmap.specs.Bitmap.{lastLineCounts, atEnd, readOn, readingOf, bitmapOf};
-ghost use Rattle.pgs_bitmap.specs.Decoding.{outcome, Decoding};
-ghost use Rattle.pgs_bitmap.specs.Progress.{Stepped, Literals, Storing};
+ghost use Rattle.pgs_bitmap.specs.Decoding.{outcome, paddedTo, Decoding};
+ghost use Rattle.pgs_bitmap.specs.Progress.{Ran, Stepped, Literals, Filled, Storing, Stored};
 
 // What reading a bitmap comes to.
 pub enum Decoded {
@@ -63,6 +65,53 @@ fn end_of_data(width: usize, height: usize, lines: usize, column: usize) -> Deco
     line_count(lines, height)
 }
 
+// Goes on after a run of so many pixels whose code takes so many bytes.
+fn pass_run(
+    width: usize,
+    lines: usize,
+    column: usize,
+    at: usize,
+    count: usize,
+    taken: usize,
+) -> Step
+    requires { ⌜ (column ≤ width) × (at + taken < 2 ^ 64) ⌝ }
+    ensures { λ r. ⌜ Ran width lines column at count taken r ⌝ }
+{
+    if width - column < count {
+        return Step::Refused(Refusal::RunPastWidth);
+    }
+    Step::To(Place {
+        lines: lines,
+        column: column + count,
+        at: at + taken,
+    })
+}
+
+// Goes on after the end of a line, which is the code at a place.
+fn end_line(
+    data: &[u8],
+    width: usize,
+    height: usize,
+    lines: usize,
+    column: usize,
+    at: usize,
+) -> Step
+    requires { ⌜ (codeOf (drop at (now «data»)) ≡ found lineEnd 2) × (at ≤ length (now «data»)) × (column ≤ width) × (lines ≤ height) × (height < 65536) ⌝ }
+    ensures { λ r. ⌜ Stepped (now («data» .entry)) width height lines column at r ⌝ }
+{
+    if column != width {
+        return Step::Refused(Refusal::ShortLine);
+    }
+    if height <= lines {
+        return Step::Refused(Refusal::TooManyLines);
+    }
+    Step::To(Place {
+        lines: lines + 1,
+        column: 0,
+        at: at + 2,
+    })
+}
+
 // Reads the code that begins with the byte 00 at a place, with so many lines ended and so many pixels after them.
 fn after_escape(
     data: &[u8],
@@ -81,31 +130,39 @@ fn after_escape(
             count,
             color: _,
             taken,
-        } => {
-            if width - column < count {
-                return Step::Refused(Refusal::RunPastWidth);
-            }
-            Step::To(Place {
-                lines: lines,
-                column: column + count,
-                at: at + taken,
-            })
-        }
-        NextCode::LineEnd => {
-            if column != width {
-                return Step::Refused(Refusal::ShortLine);
-            }
-            if height <= lines {
-                return Step::Refused(Refusal::TooManyLines);
-            }
-            Step::To(Place {
-                lines: lines + 1,
-                column: 0,
-                at: at + 2,
-            })
-        }
+        } => pass_run(width, lines, column, at, count, taken),
+        NextCode::LineEnd => end_line(data, width, height, lines, column, at),
         NextCode::Truncated(why) => Step::Refused(why),
     }
+}
+
+// The same where four bytes are left, so that none is missing. Each kind of run goes on by itself, which is faster.
+fn after_whole_escape(
+    data: &[u8],
+    width: usize,
+    height: usize,
+    lines: usize,
+    column: usize,
+    at: usize,
+) -> Step
+    requires { ⌜ (at + 4 ≤ length (now «data»)) × (getD (now «data») at 0 ≡ 0) × (column ≤ width) × (lines ≤ height) × (height < 65536) ⌝ }
+    ensures { λ r. ⌜ Stepped (now («data» .entry)) width height lines column at r ⌝ }
+{
+    let second = data[at + 1];
+    let low = wide(second % 64);
+    if 0x80 <= second {
+        if second < 0xC0 {
+            return pass_run(width, lines, column, at, low, 3);
+        }
+        return pass_run(width, lines, column, at, long_count(low, data[at + 2]), 4);
+    }
+    if second < 0x40 {
+        if second == 0 {
+            return end_line(data, width, height, lines, column, at);
+        }
+        return pass_run(width, lines, column, at, low, 2);
+    }
+    pass_run(width, lines, column, at, long_count(low, data[at + 2]), 3)
 }
 
 // Reads the codes from a place on, a code at a time, with so many lines ended and so many pixels after them.
@@ -148,8 +205,7 @@ fn check_rest(
 }
 
 // Reads the codes through. Bytes in a row that are one pixel each, `from` to `at`, are tested together where another code or the rest
-// follows them; after eight of them it looks for more by eights. Where four bytes are left, no code has bytes missing, which makes this
-// loop fast.
+// follows them. Where four bytes are left, no code has bytes missing, which makes this loop fast.
 fn check_codes(data: &[u8], width: usize, height: usize) -> Decoded
     requires { ⌜ height < 65536 ⌝ }
     ensures { λ r. ⌜ outcome r ≡ readingOf (now («data» .entry)) width height .verdict ⌝ }
@@ -160,15 +216,12 @@ fn check_codes(data: &[u8], width: usize, height: usize) -> Decoded
     let mut at: usize = 0;
     while 4 <= data.len() - at {
         if data[at] != 0 {
-            at += 1;
-            if at - from == 8 {
-                at += literals_by_eight(data, at);
-            }
+            at += literals_from(data, at);
         } else {
             if width - column < at - from {
                 return Decoded::Refused(Refusal::RunPastWidth);
             }
-            let step = after_escape(data, width, height, lines, column + (at - from), at);
+            let step = after_whole_escape(data, width, height, lines, column + (at - from), at);
             match step {
                 Step::To(place) => {
                     lines = place.lines;
@@ -219,20 +272,18 @@ fn fill_block(pixels: &mut [u8], from: usize, color: u8)
     }
 }
 
-// Fills a run of pixels; the pixels after it may change, and are stored later. Where there is room it begins with a whole block, which
-// is all that most runs need.
-fn fill(pixels: &mut [u8], from: usize, count: usize, color: u8)
-    requires { ⌜ from + count ≤ length (now pixels) ⌝ }
-    ensures { λ _. ⌜ take (from + count) (now (pixels .exit)) ≡ take from (now (pixels .entry)) ++ replicate count color ⌝ }
+// Fills as much of a run as there is room for, touches no other pixel, and answers the place after it.
+fn fill_run(pixels: &mut [u8], from: usize, count: usize, color: u8) -> usize
+    requires { ⌜ from ≤ length (now pixels) ⌝ }
+    ensures { λ r. ⌜ Filled (now (pixels .entry)) from count color r (now (pixels .exit)) ⌝ }
 {
-    if pixels.len() - from < 64 {
-        fill_exactly(pixels, from, count, color);
-        return;
+    let room = pixels.len() - from;
+    if room < count {
+        fill_exactly(pixels, from, room, color);
+        return from + room;
     }
-    fill_block(pixels, from, color);
-    if 64 < count {
-        fill_exactly(pixels, from + 64, count - 64, color);
-    }
+    fill_exactly(pixels, from, count, color);
+    from + count
 }
 
 // How far storing has come: the place of the next code, and that of its first pixel.
@@ -243,7 +294,7 @@ struct Spot {
 
 // Stores the pixel of a byte that is one pixel, and no other.
 fn store_literal(data: &[u8], at: usize, pixels: &mut [u8], out: usize) -> Spot
-    requires { ⌜ (at < length (now «data»)) × Storing (now «data») (now pixels) at out ⌝ }
+    requires { ⌜ (at < length (now «data»)) × (out < length (now pixels)) × Storing (now «data») (now pixels) at out ⌝ }
     ensures { λ r. ⌜ (at ≤ r .at) × Storing (now («data» .entry)) (now (pixels .exit)) (r .at) (r .out) ⌝ }
 {
     let b = data[at];
@@ -257,9 +308,40 @@ fn store_literal(data: &[u8], at: usize, pixels: &mut [u8], out: usize) -> Spot
     Spot { at: at, out: out }
 }
 
+// Stores the run of a code that begins with the byte 00. An end of line is stored as a run of no pixels. Runs of up to 63 pixels begin
+// with a whole block: the pixels after the run are stored later. After such a run it looks for a pixel by itself, since that is what
+// mostly follows.
+fn store_escape(data: &[u8], at: usize, pixels: &mut [u8], out: usize) -> Spot
+    requires { ⌜ (at + 8 ≤ length (now «data»)) × (getD (now «data») at 0 ≡ 0) × (out + 72 ≤ length (now pixels)) × Storing (now «data») (now pixels) at out ⌝ }
+    ensures { λ r. ⌜ (at < r .at) × Storing (now («data» .entry)) (now (pixels .exit)) (r .at) (r .out) ⌝ }
+{
+    let second = data[at + 1];
+    let low = wide(second % 64);
+    if 0x80 <= second {
+        if second < 0xC0 {
+            fill_block(pixels, out, data[at + 2]);
+            return store_literal(data, at + 3, pixels, out + low);
+        }
+        let end = fill_run(pixels, out, long_count(low, data[at + 2]), data[at + 3]);
+        return Spot {
+            at: at + 4,
+            out: end,
+        };
+    }
+    if second < 0x40 {
+        fill_block(pixels, out, 0);
+        return store_literal(data, at + 2, pixels, out + low);
+    }
+    let end = fill_run(pixels, out, long_count(low, data[at + 2]), 0);
+    Spot {
+        at: at + 3,
+        out: end,
+    }
+}
+
 // Stores eight bytes that are one pixel each.
 fn store_eight(data: &[u8], at: usize, pixels: &mut [u8], out: usize)
-    requires { ⌜ (at + 8 ≤ length (now «data»)) × Literals (now «data») at 8 × Storing (now «data») (now pixels) at out ⌝ }
+    requires { ⌜ (at + 8 ≤ length (now «data»)) × (out + 8 ≤ length (now pixels)) × Literals (now «data») at 8 × Storing (now «data») (now pixels) at out ⌝ }
     ensures { λ _. ⌜ Storing (now («data» .entry)) (now (pixels .exit)) (at + 8) (out + 8) ⌝ }
 {
     let mut i: usize = 0;
@@ -269,17 +351,14 @@ fn store_eight(data: &[u8], at: usize, pixels: &mut [u8], out: usize)
     }
 }
 
-// Stores the pixels of one code or more, where none has bytes missing. An end of line is stored as a run of no pixels. After a run it
-// looks for a pixel by itself, since that is what mostly follows.
+// Stores the pixels of one code or more, where none has bytes missing and there is room for a block and more.
 fn store_some(data: &[u8], at: usize, pixels: &mut [u8], out: usize) -> Spot
-    requires { ⌜ (at + 8 ≤ length (now «data»)) × Storing (now «data») (now pixels) at out ⌝ }
+    requires { ⌜ (at + 8 ≤ length (now «data»)) × (out + 72 ≤ length (now pixels)) × Storing (now «data») (now pixels) at out ⌝ }
     ensures { λ r. ⌜ (at < r .at) × Storing (now («data» .entry)) (now (pixels .exit)) (r .at) (r .out) ⌝ }
 {
     let b = data[at];
     if b == 0 {
-        let run = run_of(data[at + 1], data[at + 2], data[at + 3]);
-        fill(pixels, out, run.count, run.color);
-        return store_literal(data, at + run.taken, pixels, out + run.count);
+        return store_escape(data, at, pixels, out);
     }
     if eight_literals(data, at) {
         store_eight(data, at, pixels, out);
@@ -295,18 +374,17 @@ fn store_some(data: &[u8], at: usize, pixels: &mut [u8], out: usize) -> Spot
     }
 }
 
-// Stores the pixels of the codes from a place on, a code at a time.
-fn store_rest(data: &[u8], from: usize, pixels: &mut [u8], first: usize)
+// Stores the pixels of the codes from a place on, a code at a time, as far as there is room; answers the place after them.
+fn store_rest(data: &[u8], from: usize, pixels: &mut [u8], first: usize) -> usize
     requires { ⌜ Storing (now «data») (now pixels) from first ⌝ }
-    ensures { λ _. ⌜ now (pixels .exit) ≡ bitmapOf (now («data» .entry)) ⌝ }
+    ensures { λ r. ⌜ Stored (now («data» .entry)) (now (pixels .exit)) r ⌝ }
 {
     let mut at: usize = from;
     let mut out: usize = first;
     while at < data.len() {
         let b = data[at];
         if b != 0 {
-            pixels[out] = b;
-            out += 1;
+            out = fill_run(pixels, out, 1, b);
             at += 1;
         } else {
             let code = escape_at(data, at);
@@ -316,34 +394,36 @@ fn store_rest(data: &[u8], from: usize, pixels: &mut [u8], first: usize)
                     color,
                     taken,
                 } => {
-                    fill(pixels, out, count, color);
-                    out += count;
+                    out = fill_run(pixels, out, count, color);
                     at += taken;
                 }
                 NextCode::LineEnd => {
                     at += 2;
                 }
                 NextCode::Truncated(_) => {
-                    return;
+                    return out;
                 }
             }
         }
     }
+    out
 }
 
-// Stores the pixels of the codes, for which there is exactly room.
-fn store_rle(data: &[u8], pixels: &mut [u8])
-    requires { ⌜ length (now pixels) ≡ length (bitmapOf (now «data»)) ⌝ }
-    ensures { λ _. ⌜ now (pixels .exit) ≡ bitmapOf (now («data» .entry)) ⌝ }
+// Stores the pixels of the codes, as many as there is room for, and makes the pixels after them 0. Nothing is tested but the room: for a
+// caller that has read the bitmap through.
+pub fn store_rle(data: &[u8], pixels: &mut [u8])
+    ensures { λ _. ⌜ now (pixels .exit) ≡ paddedTo (length (now (pixels .entry))) (bitmapOf (now («data» .entry))) ⌝ }
 {
     let mut at: usize = 0;
     let mut out: usize = 0;
-    while 8 <= data.len() - at {
+    while 8 <= data.len() - at && 72 <= pixels.len() - out {
         let spot = store_some(data, at, pixels, out);
         at = spot.at;
         out = spot.out;
     }
-    store_rest(data, at, pixels, out);
+    let end = store_rest(data, at, pixels, out);
+    let left = pixels.len() - end;
+    fill_exactly(pixels, end, left, 0);
 }
 
 // Reads a bitmap into the first width times height pixels.

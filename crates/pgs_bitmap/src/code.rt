@@ -28,21 +28,21 @@ pub enum CodeAt {
 }
 
 // A byte as a number; its bound spares each caller a proof.
-fn wide(x: u8) -> usize
+pub(crate) fn wide(x: u8) -> usize
     ensures { λ r. ⌜ (r ≡ x) × (r < 256) ⌝ }
 {
     x as usize
 }
 
 // A run of pixels of one color, and the bytes that its code takes.
-pub(crate) struct Run {
-    pub(crate) count: usize,
-    pub(crate) color: u8,
-    pub(crate) taken: usize,
+struct Run {
+    count: usize,
+    color: u8,
+    taken: usize,
 }
 
 // The length of a long run.
-fn long_count(low: usize, third: u8) -> usize
+pub(crate) fn long_count(low: usize, third: u8) -> usize
     requires { ⌜ low < 64 ⌝ }
     ensures { λ r. ⌜ r ≡ 256 * low + third ⌝ }
 {
@@ -68,7 +68,7 @@ fn third_color(second: u8, third: u8) -> u8
 }
 
 // The run of 00, this second byte and, where its code takes so many, these two more. Runs are told apart by the bytes that they take.
-pub(crate) fn run_of(second: u8, third: u8, fourth: u8) -> Run
+fn run_of(second: u8, third: u8, fourth: u8) -> Run
     ensures { λ r. ⌜ found (run (r .count) (r .color)) (r .taken) ≡ runOf second (third ∷ fourth ∷ []) ⌝ }
 {
     let low = wide(second % 64);
@@ -192,7 +192,7 @@ pub(crate) fn eight_literals(data: &[u8], at: usize) -> bool
 }
 
 // So many bytes from a place on are one pixel each: counted by eights, up to an eight that has a byte 00.
-pub(crate) fn literals_by_eight(data: &[u8], at: usize) -> usize
+fn literals_by_eight(data: &[u8], at: usize) -> usize
     requires { ⌜ at ≤ length (now «data») ⌝ }
     ensures { λ r. ⌜ (at + r ≤ length (now («data» .entry))) × Literals (now («data» .entry)) at r ⌝ }
 {
@@ -206,4 +206,21 @@ pub(crate) fn literals_by_eight(data: &[u8], at: usize) -> usize
         }
     }
     n
+}
+
+// So many bytes from a place on are one pixel each, of which the first is: one by one up to the fourth, then by eights.
+pub(crate) fn literals_from(data: &[u8], at: usize) -> usize
+    requires { ⌜ (at + 4 ≤ length (now «data»)) × (getD (now «data») at 0 ≡ 0 → ⊥) ⌝ }
+    ensures { λ r. ⌜ (0 < r) × (at + r ≤ length (now («data» .entry))) × Literals (now («data» .entry)) at r ⌝ }
+{
+    if data[at + 1] == 0 {
+        return 1;
+    }
+    if data[at + 2] == 0 {
+        return 2;
+    }
+    if data[at + 3] == 0 {
+        return 3;
+    }
+    4 + literals_by_eight(data, at + 4)
 }

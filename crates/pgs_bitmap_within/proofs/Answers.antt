@@ -7,6 +7,7 @@ use Prim.Native.Nat.{ℕ, _+_, _-_, _*_, _≤_}
 use native.Mathlib.Omega.{arith}
 use lib.Dec.{leb}
 use lib.ListN.{length}
+use lib.Seq.{take-all}
 use borrow.Author.Tests.{leb-true}
 use Rattle.pgs_base.specs.Outcome.{Verdict, accepted, refused, andThen, unless}
 use Rattle.pgs_base.specs.declared.refusal.Refusal.the-variants.{BufferTooSmall}
@@ -15,7 +16,7 @@ use Rattle.pgs_bitmap.specs.Decoding.{outcome}
 use Rattle.pgs_bitmap.specs.declared.bitmap.Decoded.{Decoded}
 use Rattle.pgs_bitmap.specs.declared.bitmap.Decoded.the-variants.{Accepted, Refused}
 use Rattle.pgs_bitmap.proofs.BitmapArea.{bitmap-area}
-use Rattle.pgs_bitmap_within.specs.Within.{partAt, putAt, roomFor, withinVerdict, changed, DecodingWithin}
+use Rattle.pgs_bitmap_within.specs.Within.{partAt, putAt, roomFor, shownFrom, storedWithin, withinVerdict, changed, DecodingWithin}
 use Rattle.pgs_bitmap_within.specs.Storing.{Room}
 
 -- what a test of the opposite tells
@@ -30,6 +31,23 @@ holds false e = sym e
 both : (a b : Bool) → a && b ≡ true → (a ≡ true) × (b ≡ true)
 both true b e = (refl, e)
 both false b e = (e, cc)
+
+-- the contract of `store_within` by the test of the places
+module _ (before : List ℕ) (place len at : ℕ) where
+  pub leaves : roomFor (length before) place len at 0 ≡ false → before ≡ storedWithin before place len at
+  leaves e = rw e
+
+  pub stores : (after : List ℕ) → roomFor (length before) place len at 0 ≡ true
+      → after
+      ≡ putAt at (length (shownFrom (length before) at (bitmapOf (partAt before place len)))) (shownFrom (length before) at (bitmapOf (partAt before place len))) before
+      → after ≡ storedWithin before place len at
+  stores after e is = rw e is
+
+  pub has-place : roomFor (length before) place len at 0 ≡ true → Room before place len at
+  has-place e =
+      let t = both (leb (place + len) at) (leb (at + 0) (length before)) e in
+      let inside : at + 0 ≤ length before = leb-true _ _ (t .1) in
+      record { behind = leb-true _ _ (t .0); inside = omega arith }
 
 module _ (before : List ℕ) (place len width height at : ℕ) where
   -- with the verdict of the call in hand
@@ -77,13 +95,16 @@ module _ (before : List ℕ) (place len width height at : ℕ) where
         → length (bitmapOf (partAt before place len)) ≡ width * height
     area e = bitmap-area (partAt before place len) width height (sym (checked-part accepted e))
 
-    pub has-room : accepted ≡ readingOf (partAt before place (place + len - place)) width height .verdict → Room before place len at
-    has-room e = record { behind = behind; enough = rw (area e) inside }
+    pub has-room : Room before place len at
+    has-room = record { behind = behind; inside = omega (arith, inside) }
 
     -- the bitmap is stored
     pub stored-bitmap : (after : List ℕ) → accepted ≡ readingOf (partAt before place (place + len - place)) width height .verdict
-        → after ≡ putAt at (length (bitmapOf (partAt before place len))) (bitmapOf (partAt before place len)) before
+        → after
+        ≡ putAt at (length (shownFrom (length before) at (bitmapOf (partAt before place len)))) (shownFrom (length before) at (bitmapOf (partAt before place len))) before
         → DecodingWithin before place len width height at Accepted after
     stored-bitmap after e is =
         answer Accepted after accepted (verdict-is accepted e) refl
-        (is ∙ ap (λ (n : ℕ). putAt at n (bitmapOf (partAt before place len)) before) (area e))
+        (is
+        ∙ ap (λ (l : List ℕ). putAt at (length l) l before) (take-all (length before - at) (bitmapOf (partAt before place len)) (omega (arith, area e, inside)))
+        ∙ ap (λ (n : ℕ). putAt at n (bitmapOf (partAt before place len)) before) (area e))

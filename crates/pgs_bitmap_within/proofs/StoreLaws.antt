@@ -1,16 +1,16 @@
 -- Storing a bitmap's pixels behind its data, code by code. What is stored lies behind the data, so that the data stays.
 -- Assumes nothing.
-use mathlib.Core.Path.{_≡_, refl, sym, ap, _∙_}
-use mathlib.Core.List.{List, [], _∷_, _++_, append-assoc}
+use mathlib.Core.Path.{_≡_, refl, sym, ap, ap₂, _∙_}
+use mathlib.Core.List.{List, [], _∷_, _++_, append-assoc, append-nil}
 use Prim.Native.Nat.{ℕ, _+_, _-_, _≤_, _<_}
 use native.Mathlib.Omega.{arith}
-use lib.ListN.{length, take, drop, replicate, length-append, length-drop, length-replicate}
-use lib.Seq.{length-take-le, take-take, take-append-le}
-use Rattle.pgs_base.proofs.Front.{Front, parted, filled}
+use lib.ListN.{length, take, drop, replicate, length-append, length-drop, length-replicate, take-append-drop}
+use lib.Seq.{length-take-le, take-take, take-append-le, take-append-add, take-all, take-at, drop-at, drop-drop}
 use Rattle.pgs_base.proofs.Lists.{drop-take}
 use Rattle.pgs_bitmap.specs.Bitmap.{bitmapOf}
 use Rattle.pgs_bitmap.proofs.BitmapSteps.{pixels-end}
-use Rattle.pgs_bitmap_within.specs.Within.{partAt, putAt}
+use Rattle.pgs_bitmap.proofs.BitmapStores.{run-with-room}
+use Rattle.pgs_bitmap_within.specs.Within.{partAt, putAt, shownFrom}
 use Rattle.pgs_bitmap_within.specs.Storing.{Ahead, Room}
 use Rattle.pgs_bitmap_within.specs.declared.within.RunAhead.{RunAhead}
 
@@ -24,80 +24,125 @@ module _ (start : List ℕ) (place len at : ℕ) where
   abbrev whole : List ℕ
   whole = take at start ++ bitmapOf (partAt start place len)
 
-  -- The pixels of the data before `from` are stored from `at` to `out`; those of the rest are still to come.
+  -- The pixels of the data before `from` are stored from `at` to `out`; those of the rest are still to come, as many as there is room for.
   pub record Storing (now : List ℕ) (from out : ℕ) : Type 0 where
     pub within : from ≤ len
     pub order : at ≤ out
-    pub front : Front start whole now (bitmapOf (drop from (partAt start place len))) out
+    pub inside : out ≤ length start
+    pub same : length now ≡ length start
+    pub kept : drop out now ≡ drop out start
+    pub done : take (length start) (take out now ++ bitmapOf (drop from (partAt start place len))) ≡ take (length start) whole
 
 module _ {start : List ℕ} {place len at : ℕ} (r : Room start place len at) where
   part-length : length (partAt start place len) ≡ len
   part-length = length-take-le len (drop place start) (rw length-drop (omega arith))
 
   pub storing-begins : Storing start place len at start 0 at
-  storing-begins =
-      record { within = omega arith; order = omega arith; front = record { within = omega arith; same = refl; done = refl; kept = refl } }
+  storing-begins = record { within = omega arith; order = omega arith; inside = r .inside; same = refl; kept = refl; done = refl }
 
   module _ {now : List ℕ} {from out : ℕ} (s : Storing start place len at now from out) where
     -- what is stored leaves the front, and with it the data
     front-stays : take at now ≡ take at start
     front-stays =
         sym (take-take at out now (s .order))
-        ∙ sym (take-append-le at (take out now) (bitmapOf (drop from (partAt start place len))) (rw (length-take-le out now (s .front .within)) (s .order)))
-        ∙ ap (take at) (s .front .done)
-        ∙ take-append-le at (take at start) (bitmapOf (partAt start place len)) (omega (arith, length-take-le at start (omega arith)))
+        ∙ sym (take-append-le at (take out now) (bitmapOf (drop from (partAt start place len))) (rw (length-take-le out now (omega (arith, s .inside, s .same))) (s .order)))
+        ∙ sym (take-take at (length start) (take out now ++ bitmapOf (drop from (partAt start place len))) (r .inside))
+        ∙ ap (take at) (s .done)
+        ∙ take-take at (length start) (take at start ++ bitmapOf (partAt start place len)) (r .inside)
+        ∙ take-append-le at (take at start) (bitmapOf (partAt start place len)) (omega (arith, length-take-le at start (r .inside)))
         ∙ take-take at at start (omega arith)
 
     pub part-stays : partAt now place (place + len - place) ≡ partAt start place len
     part-stays =
         ap (partAt now place) {x = place + len - place} {y = len} (omega arith)
-        ∙ part-of-front now place len at (r .behind) (omega (arith, s .order, s .front .within))
+        ∙ part-of-front now place len at (r .behind) (omega (arith, s .same, r .inside))
         ∙ ap (λ (l : List ℕ). drop place (take (place + len) l)) front-stays
-        ∙ sym (part-of-front start place len at (r .behind) (omega arith))
+        ∙ sym (part-of-front start place len at (r .behind) (r .inside))
 
     pub byte-there : from < len → from < length (partAt now place (place + len - place))
     byte-there h = rw part-stays (omega (arith, part-length))
-
-    -- what is still to come ends where the pixels end
-    left : out + length (bitmapOf (drop from (partAt start place len))) ≡ at + length (bitmapOf (partAt start place len))
-    left =
-        rw (length-append (take out now), length-append (take at start), length-take-le out now (s .front .within), length-take-le at start (omega arith)) at
-        (ap length (s .front .done))
 
     module _ {ahead : RunAhead} (a : Ahead (partAt now place (place + len - place)) from ahead) where
       abbrev here : Ahead (partAt start place len) from ahead
       here = rw part-stays at a
 
-      pub run-fits : out + ahead .count ≤ length now
-      run-fits = omega (arith, rw (here .same, length-append, length-replicate) at left, s .front .same)
-
       pub taken-fits : from + ahead .taken ≤ len
       taken-fits = omega (arith, part-length, here .there)
 
-      pub run-stored : (ys : List ℕ) → ys ≡ replicate (length (take (out + ahead .count - out) (drop out now))) (ahead .color)
-          → Storing start place len at (take out now ++ (ys ++ drop (out + ahead .count - out) (drop out now))) (from + ahead .taken) (out + ahead .count)
-      run-stored ys is =
-          record { within = taken-fits; order = omega (arith, s .order); front = rw (run, count) moved }
+      -- so many pixels of the run have room
+      pub run-stored : (count : ℕ) (ys : List ℕ) → (count ≤ ahead .count) × (count ≤ length now - out) × (count < ahead .count → count ≡ length now - out)
+          → ys ≡ replicate (length (take (out + count - out) (drop out now))) (ahead .color)
+          → Storing start place len at (take out now ++ (ys ++ drop (out + count - out) (drop out now))) (from + ahead .taken) (out + count)
+      run-stored count ys few is =
+          record {
+            within = taken-fits;
+            order = omega (arith, s .order);
+            inside = omega (arith, s .inside, s .same, few .1);
+            same = ap length after ∙ rw (length-append, length-append, length-replicate, front, length-drop) (omega (arith, s .same, s .inside, few .1));
+            kept = ap (drop (out + count)) (after ∙ split) ∙ drop-at stored (drop (out + count) now) (out + count) full ∙ behind;
+            done =
+                ap (λ (l : List ℕ). take (length start) (l ++ rest)) (ap (take (out + count)) (after ∙ split) ∙ take-at stored (drop (out + count) now) (out + count) full ∙ ap (λ (n : ℕ). take out now ++ replicate n (ahead .color)) {x = count} {y = out + count - out} (omega arith))
+                ∙ run-with-room (length start) out (out + count) (ahead .count) (ahead .color) (take out now) rest front (omega arith) (omega (arith, few .0)) (λ h. omega (arith, few .2 (omega arith), s .same, s .inside))
+                ∙ ap (λ (l : List ℕ). take (length start) (take out now ++ l)) (sym (here .same))
+                ∙ s .done;
+          }
         where
-          count : out + ahead .count - out ≡ ahead .count
-          count = omega arith
+          rest : List ℕ
+          rest = bitmapOf (drop (from + ahead .taken) (partAt start place len))
 
-          size : length (take (ahead .count) (drop out now)) ≡ ahead .count
-          size = length-take-le (ahead .count) (drop out now) (rw length-drop (omega (arith, run-fits)))
+          stored : List ℕ
+          stored = take out now ++ replicate count (ahead .color)
 
-          run : ys ≡ replicate (ahead .count) (ahead .color)
-          run = is ∙ rw (count, size)
+          n-count : out + count - out ≡ count
+          n-count = omega arith
 
-          moved : Front start (whole start place len at) (take out now ++ (replicate (ahead .count) (ahead .color) ++ drop (ahead .count) (drop out now)))
-              (bitmapOf (drop (from + ahead .taken) (partAt start place len))) (out + ahead .count)
-          moved =
-              rw length-replicate at
-              (parted (replicate (ahead .count) (ahead .color)) (rw (here .same) at (s .front)) (rw length-replicate run-fits))
+          front : length (take out now) ≡ out
+          front = length-take-le out now (omega (arith, s .inside, s .same))
 
-    pub all-stored : len ≤ from → now ≡ putAt at (length (bitmapOf (partAt start place len))) (bitmapOf (partAt start place len)) start
+          size : length (take count (drop out now)) ≡ count
+          size = length-take-le count (drop out now) (rw length-drop (few .1))
+
+          full : length stored ≡ out + count
+          full = rw (length-append, length-replicate, front)
+
+          after : take out now ++ (ys ++ drop (out + count - out) (drop out now)) ≡ take out now ++ (replicate count (ahead .color) ++ drop (out + count) now)
+          after = rw (is, n-count, size, drop-drop count out now)
+
+          split : take out now ++ (replicate count (ahead .color) ++ drop (out + count) now) ≡ stored ++ drop (out + count) now
+          split = sym (append-assoc (take out now) (replicate count (ahead .color)) (drop (out + count) now))
+
+          behind : drop (out + count) now ≡ drop (out + count) start
+          behind = sym (drop-drop count out now) ∙ ap (drop count) (s .kept) ∙ drop-drop count out start
+
+    pub all-stored : len ≤ from
+        → now
+        ≡ putAt at (length (shownFrom (length start) at (bitmapOf (partAt start place len)))) (shownFrom (length start) at (bitmapOf (partAt start place len))) start
     all-stored h =
-        let none : bitmapOf (drop from (partAt start place len)) ≡ [] = pixels-end (partAt start place len) from (omega (arith, part-length)) in
-        filled (rw none at (s .front)) ∙ rw (whole-length, append-assoc)
+        sym (take-append-drop out now)
+        ∙ ap₂ _++_ ends (s .kept ∙ ap (λ (n : ℕ). drop n start) size)
+        ∙ append-assoc (take at start) shown (drop (at + length shown) start)
       where
-        whole-length : length (whole start place len at) ≡ at + length (bitmapOf (partAt start place len))
-        whole-length = rw (length-append, length-take-le at start (omega arith))
+        shown : List ℕ
+        shown = shownFrom (length start) at (bitmapOf (partAt start place len))
+
+        none : bitmapOf (drop from (partAt start place len)) ≡ []
+        none = pixels-end (partAt start place len) from (omega (arith, part-length))
+
+        front : length (take at start) ≡ at
+        front = length-take-le at start (r .inside)
+
+        -- what there is room for of the whole
+        cut : take (length start) (whole start place len at) ≡ take at start ++ shown
+        cut =
+            ap (λ (n : ℕ). take n (whole start place len at)) {x = length start} {y = length (take at start) + (length start - at)} (omega (arith, front, r .inside))
+            ∙ take-append-add (take at start) (bitmapOf (partAt start place len)) (length start - at)
+
+        ends : take out now ≡ take at start ++ shown
+        ends =
+            sym (take-all (length start) (take out now) (omega (arith, length-take-le out now (omega (arith, s .inside, s .same)), s .inside)))
+            ∙ ap (take (length start)) (sym (append-nil (take out now)) ∙ ap (λ (l : List ℕ). take out now ++ l) (sym none))
+            ∙ s .done
+            ∙ cut
+
+        size : out ≡ at + length shown
+        size = sym (length-take-le out now (omega (arith, s .inside, s .same))) ∙ ap length ends ∙ length-append (take at start) shown ∙ ap (λ (n : ℕ). n + length shown) front

@@ -7,10 +7,10 @@ use pgs_bitmap::code::CodeAt;
 use pgs_bitmap::code::NextCode;
 use pgs_bitmap::code::next_code;
 ghost use mathlib.Core.Path.{_≡_};
-ghost use Prim.Native.Nat.{_<_};
+ghost use Prim.Native.Nat.{_≤_, _<_};
 ghost use lib.ListN.{length, replicate};
 ghost use Rattle.pgs_bitmap.specs.Bitmap.{bitmapOf};
-ghost use Rattle.pgs_bitmap_within.specs.Within.{partAt, putAt, roomFor, DecodingWithin};
+ghost use Rattle.pgs_bitmap_within.specs.Within.{partAt, putAt, roomFor, shownFrom, storedWithin, DecodingWithin};
 ghost use Rattle.pgs_bitmap_within.specs.Storing.{Ahead, Room};
 
 // Pixels of one color, and the bytes of data that tell them.
@@ -69,10 +69,17 @@ fn fill(pixels: &mut [u8], color: u8)
     }
 }
 
-// Stores the pixels of the data, for which there is room.
-fn store_within(memory: &mut [u8], place: usize, len: usize, at: usize)
+// The smaller of two numbers.
+fn fewer(a: usize, b: usize) -> usize
+    ensures { λ r. ⌜ (r ≤ a) × (r ≤ b) × (r < a → r ≡ b) ⌝ }
+{
+    if b < a { b } else { a }
+}
+
+// Stores as many pixels of the data as there is room for.
+fn store_codes(memory: &mut [u8], place: usize, len: usize, at: usize)
     requires { ⌜ Room (now memory) place len at ⌝ }
-    ensures { λ _. ⌜ now (memory .exit) ≡ putAt at (length (bitmapOf (partAt (now (memory .entry)) place len))) (bitmapOf (partAt (now (memory .entry)) place len)) (now (memory .entry)) ⌝ }
+    ensures { λ _. ⌜ now (memory .exit) ≡ putAt at (length (shownFrom (length (now (memory .entry))) at (bitmapOf (partAt (now (memory .entry)) place len)))) (shownFrom (length (now (memory .entry))) at (bitmapOf (partAt (now (memory .entry)) place len))) (now (memory .entry)) ⌝ }
 {
     let end = place + len;
     let mut from: usize = 0;
@@ -80,7 +87,7 @@ fn store_within(memory: &mut [u8], place: usize, len: usize, at: usize)
     while from < len {
         let next = next_run(&memory[place..end], from);
         let color = next.color;
-        let to = out + next.count;
+        let to = out + fewer(next.count, memory.len() - out);
         fill(&mut memory[out..to], color);
         out = to;
         from += next.taken;
@@ -103,6 +110,16 @@ fn room_for(size: usize, place: usize, len: usize, at: usize, need: usize) -> bo
     need <= size - at
 }
 
+// Stores the pixels of the data at a place of the memory from `at` on, as many as there is room for. Nothing is tested but the room: for a
+// caller that has read the bitmap through.
+pub fn store_within(memory: &mut [u8], place: usize, len: usize, at: usize)
+    ensures { λ _. ⌜ now (memory .exit) ≡ storedWithin (now (memory .entry)) place len at ⌝ }
+{
+    if room_for(memory.len(), place, len, at, 0) {
+        store_codes(memory, place, len, at);
+    }
+}
+
 // Reads the bitmap whose data stands at a place of the memory, and stores its width times height pixels from `at` on.
 pub fn decode_within(
     memory: &mut [u8],
@@ -123,6 +140,6 @@ pub fn decode_within(
     let Decoded::Accepted = checked else {
         return checked;
     };
-    store_within(memory, place, len, at);
+    store_codes(memory, place, len, at);
     Decoded::Accepted
 }

@@ -7,13 +7,13 @@ use native.Mathlib.Omega.{arith}
 use borrow.Author.Tests.{eq-eqb, eqb-true, le-leb}
 use lib.Dec.{leb, eqb}
 use lib.ListN.{length, take, drop, getD, length-append, length-drop, drop-of-length-le, take-append-drop}
-use lib.Seq.{drop-drop, drop-at, take-at, take-take, take-append-le, length-take-le}
+use lib.Seq.{drop-drop, drop-at, take-at, take-all, take-take, take-append-le, length-take-le}
 use Rattle.pgs_base.specs.Outcome.{Verdict, accepted, andThen, unless, laid, pick}
 use Rattle.pgs_bitmap.specs.Bitmap.{readingOf, bitmapOf}
-use Rattle.pgs_bitmap.specs.Decoding.{decodeVerdict, Decoding}
-use Rattle.pgs_bitmap.specs.declared.bitmap.Decoded.{Decoded}
+use Rattle.pgs_bitmap.specs.Decoding.{paddedTo}
 use Rattle.pgs_bitmap.proofs.BitmapArea.{bitmap-area}
-use Rattle.pgs_bitmap_within.specs.Within.{partAt, putAt, changed, withinVerdict, DecodingWithin}
+use Rattle.pgs_bitmap.proofs.DecodeAnswers.{padded-whole}
+use Rattle.pgs_bitmap_within.specs.Within.{partAt, putAt, roomFor, shownFrom, storedWithin}
 use Rattle.pgs_object.specs.Reassembly.{partOf, shownBy}
 use Rattle.pgs_base.proofs.Lists.{drop-take}
 use Rattle.pgs_base.proofs.Outcomes.{first-accepts, second-holds}
@@ -36,51 +36,50 @@ shown-scratch s x r at held away room =
     (sym (lent-part (getD r 5 0) (getD r 6 0) x) ∙ part-whole (getD r 5 0) (getD r 6 0) x (omega (arith, within)) (omega (arith, within)))
 
 module _ (s r : List ℕ) (at : ℕ) (scratch : List ℕ) (st : Storable s r at scratch) where
-  pub stored-stream : getD r 4 0 ≡ 0 → {bytes part part′ : List ℕ} {answer : Decoded} → bytes ≡ shownBy s s r → part ≡ drop at scratch
-      → Decoding bytes (getD r 2 0) (getD r 3 0) part answer part′
-      → take at scratch ++ (part′ ++ drop (length scratch - at) (drop at scratch)) ≡ take at scratch ++ (bitmapOf (shownBy s scratch r) ++ drop (at + rowArea r) scratch)
-  stored-stream e {bytes} {part} {part′} eb ep d =
-      ap (λ (l : List ℕ). take at scratch ++ (part′ ++ l)) (drop-of-length-le (drop at scratch) past)
-      ∙ ap (λ (l : List ℕ). take at scratch ++ l) (append-nil part′ ∙ d .stored ∙ ap (λ (v : Verdict). laid v (bitmapOf bytes) part) met ∙ (λ j. bitmapOf (is j) ++ behind j))
+  pub stored-stream : getD r 4 0 ≡ 0 → {bytes part part′ : List ℕ} (n : ℕ) → n ≡ rowArea r → bytes ≡ shownBy s s r → part ≡ take n (drop at scratch)
+      → part′ ≡ paddedTo (length part) (bitmapOf bytes)
+      → take at scratch ++ (part′ ++ drop n (drop at scratch)) ≡ take at scratch ++ (bitmapOf (shownBy s scratch r) ++ drop (at + rowArea r) scratch)
+  stored-stream e {bytes} {part} n area eb ep d =
+      ap (λ (l : List ℕ). take at scratch ++ (l ++ drop n (drop at scratch))) (d ∙ padded-whole (bitmapOf bytes) (length part) fills ∙ ap bitmapOf is)
+      ∙ ap (λ (l : List ℕ). take at scratch ++ (bitmapOf (shownBy s scratch r) ++ l)) (drop-drop n at scratch ∙ ap (λ (m : ℕ). drop (at + m) scratch) area)
     where
-      past : length (drop at scratch) ≤ length scratch - at
-      past = omega (arith, length-drop at scratch)
-
       is : bytes ≡ shownBy s scratch r
       is = eb ∙ shown-stream s s scratch r e
 
       ok : readingOf bytes (getD r 2 0) (getD r 3 0) .verdict ≡ accepted
       ok = ap (λ (b : List ℕ). readingOf b (getD r 2 0) (getD r 3 0) .verdict) is ∙ st .reads
 
-      room : leb (getD r 2 0 * getD r 3 0) (length part) ≡ true
-      room = le-leb (getD r 2 0 * getD r 3 0) (length part) (omega (arith, ap length ep, length-drop at scratch, st .room))
+      inside : n ≤ length (drop at scratch)
+      inside = omega (arith, length-drop at scratch, area, st .room)
 
-      met : decodeVerdict bytes (getD r 2 0) (getD r 3 0) (length part) ≡ accepted
-      met = λ j. andThen (ok j) (unless 34 (room j))
+      fills : length (bitmapOf bytes) ≡ length part
+      fills = bitmap-area bytes (getD r 2 0) (getD r 3 0) ok ∙ sym (ap length ep ∙ length-take-le n (drop at scratch) inside ∙ area)
 
-      behind : drop (length (bitmapOf bytes)) part ≡ drop (at + rowArea r) scratch
-      behind = (λ j. drop (bitmap-area bytes (getD r 2 0) (getD r 3 0) ok j) (ep j)) ∙ drop-drop (getD r 2 0 * getD r 3 0) at scratch
-
-  pub stored-scratch : (getD r 4 0 ≡ 0 → ⊥) → {answer : Decoded} {scratch′ : List ℕ}
-      → DecodingWithin scratch (getD r 5 0) (getD r 6 0) (getD r 2 0) (getD r 3 0) at answer scratch′
+  pub stored-scratch : (getD r 4 0 ≡ 0 → ⊥) → {scratch′ : List ℕ} → scratch′ ≡ storedWithin scratch (getD r 5 0) (getD r 6 0) at
       → scratch′ ≡ take at scratch ++ (bitmapOf (shownBy s scratch r) ++ drop (at + rowArea r) scratch)
   stored-scratch away d =
-      d .stored
-      ∙ ap (λ (v : Verdict). changed v at (rowArea r) (bitmapOf (partAt scratch (getD r 5 0) (getD r 6 0))) scratch) met
+      d
+      ∙ ap (λ (b : Bool). pick b (putAt at (length (shownFrom (length scratch) at pixels)) (shownFrom (length scratch) at pixels) scratch) scratch) met
+      ∙ ap (λ (l : List ℕ). putAt at (length l) l scratch) whole
+      ∙ ap (λ (n : ℕ). putAt at n pixels scratch) area
       ∙ ap (λ (b : List ℕ). putAt at (rowArea r) (bitmapOf b) scratch) is
     where
+      pixels : List ℕ
+      pixels = bitmapOf (partAt scratch (getD r 5 0) (getD r 6 0))
+
       is : partAt scratch (getD r 5 0) (getD r 6 0) ≡ shownBy s scratch r
       is = shown-scratch s scratch r at (st .held) away (omega (arith, st .room))
 
-      ok : readingOf (partAt scratch (getD r 5 0) (getD r 6 0)) (getD r 2 0) (getD r 3 0) .verdict ≡ accepted
-      ok = ap (λ (b : List ℕ). readingOf b (getD r 2 0) (getD r 3 0) .verdict) is ∙ st .reads
+      area : length pixels ≡ rowArea r
+      area =
+          bitmap-area (partAt scratch (getD r 5 0) (getD r 6 0)) (getD r 2 0) (getD r 3 0)
+          (ap (λ (b : List ℕ). readingOf b (getD r 2 0) (getD r 3 0) .verdict) is ∙ st .reads)
 
-      met : withinVerdict scratch (getD r 5 0) (getD r 6 0) (getD r 2 0) (getD r 3 0) at ≡ accepted
-      met =
-          λ j.
-          andThen
-          (unless 34 (le-leb (getD r 5 0 + getD r 6 0) at (st .held .before away) j && le-leb (at + getD r 2 0 * getD r 3 0) (length scratch) (st .room) j))
-          (ok j)
+      met : roomFor (length scratch) (getD r 5 0) (getD r 6 0) at 0 ≡ true
+      met = λ j. le-leb (getD r 5 0 + getD r 6 0) at (st .held .before away) j && le-leb (at + 0) (length scratch) (omega (arith, st .room)) j
+
+      whole : shownFrom (length scratch) at pixels ≡ pixels
+      whole = take-all (length scratch - at) pixels (omega (arith, area, st .room))
 
 -- data before a place is shown alike by scratches that are alike before it
 shown-same : (s x y r : List ℕ) (at : ℕ) → Held r at → take at x ≡ take at y → at ≤ length x → at ≤ length y → shownBy s x r ≡ shownBy s y r

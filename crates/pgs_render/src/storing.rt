@@ -1,6 +1,6 @@
 // Storing the bitmaps of a display set's objects in the scratch, after the joined data.
-use pgs_bitmap::bitmap::decode_rle;
-use pgs_bitmap_within::within::decode_within;
+use pgs_bitmap::bitmap::store_rle;
+use pgs_bitmap_within::within::store_within;
 use pgs_object_view::view::object_data;
 ghost use mathlib.Core.Path.{_≡_};
 ghost use mathlib.Core.List.{_++_};
@@ -15,13 +15,12 @@ fn store_bitmap(s: &[u8], row: [u64; 7], at: usize, scratch: &mut [u8])
     requires { ⌜ Storable (now s) row at (now scratch) ⌝ }
     ensures { λ _. ⌜ now (scratch .exit) ≡ take at (now (scratch .entry)) ++ (bitmapOf (shownBy (now (s .entry)) (now (scratch .entry)) row) ++ drop (at + rowArea row) (now (scratch .entry))) ⌝ }
 {
-    let width = row[2] as u16;
-    let height = row[3] as u16;
     if row[4] == 0 {
-        decode_rle(object_data(s, s, row), width, height, &mut scratch[at..]);
+        let end = at + (row[2] as usize) * (row[3] as usize);
+        store_rle(object_data(s, s, row), &mut scratch[at..end]);
         return;
     }
-    decode_within(scratch, row[5] as usize, row[6] as usize, width, height, at);
+    store_within(scratch, row[5] as usize, row[6] as usize, at);
 }
 
 // Stores the bitmaps one after another from `from` on.

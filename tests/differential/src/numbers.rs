@@ -11,7 +11,7 @@ pub const UNWRITABLE: u8 = 35;
 
 /// Each message that reading, grouping, joining, decoding and painting can give, with its number.
 /// 23, 34, 35 and 36 are refusals that the Rust lacks.
-const NUMBERS: [(u8, &str); 32] = [
+pub const NUMBERS: [(u8, &str); 32] = [
     (1, "PG segment header truncated"),
     (2, "PG segment header bad magic"),
     (3, "PG segment body truncated"),

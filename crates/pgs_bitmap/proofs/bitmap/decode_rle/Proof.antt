@@ -6,7 +6,7 @@ use borrow.Author.Needs.{needs}
 use Rattle.pgs_base.specs.Outcome.{accepted}
 use Rattle.pgs_bitmap.specs.Bitmap.{readingOf}
 use Rattle.pgs_bitmap.specs.Decoding.{outcome}
-use Rattle.pgs_bitmap.proofs.DecodeAnswers.{area-fits, refused-bitmap, too-small, part-fits, stored-bitmap}
+use Rattle.pgs_bitmap.proofs.DecodeAnswers.{area-fits, refused-bitmap, too-small, stored-bitmap}
 use Rattle.pgs_bitmap.proofs.bitmap.decode_rle.Statement.{statement}
 use Rattle.pgs_bitmap.proofs.bitmap.decode_rle.Tie as tie
 
@@ -39,7 +39,7 @@ slice-aggregate-store-rle : tie.Need-slice-aggregate-store-rle
 slice-aggregate-store-rle c = sym (length-take-le _ _ (c .before .if1 .left))
 
 store-rle-requires : tie.Need-store-rle-requires
-store-rle-requires c κs = part-fits (now (c .before .before .before .before .before .before .before .args .«data»)) (c .before .before .before .before .before .before .before .args .width) (c .before .before .before .before .before .before .before .args .height) (now (c .before .before .before .before .before .before .before .args .pixels)) (accepts (c .before .before)) (c .before .if1 .left)
+store-rle-requires c κs = search needs
 
 same-length : tie.Need-same-length
 same-length c = search needs

@@ -1,7 +1,7 @@
 -- `store_literal` meets its contract. Assumes nothing.
 use native.Mathlib.Omega.{arith}
 use borrow.Author.Needs.{needs}
-use Rattle.pgs_bitmap.proofs.BitmapStores.{storing-pixel-room, storing-pixel}
+use Rattle.pgs_bitmap.proofs.BitmapStores.{storing-pixel}
 use Rattle.pgs_bitmap.proofs.bitmap.store_literal.Statement.{statement}
 use Rattle.pgs_bitmap.proofs.bitmap.store_literal.Tie as tie
 
@@ -9,7 +9,7 @@ shared-slice-read-b : tie.Need-shared-slice-read-b
 shared-slice-read-b c = search needs
 
 slice-write-pixels : tie.Need-slice-write-pixels
-slice-write-pixels c = storing-pixel-room (c .before .before .pre .1) (c .before .before .pre .0) (c .if1 .taken)
+slice-write-pixels c = search needs
 
 add-t10 : tie.Need-add-t10
 add-t10 c = search needs
@@ -21,7 +21,7 @@ same-length : tie.Need-same-length
 same-length c = search needs
 
 returns : tie.Need-returns
-returns c = (omega arith, storing-pixel (c .before .before .pre .1) (c .before .before .pre .0) (c .if1 .taken))
+returns c = (omega arith, storing-pixel (c .before .before .pre .2) (c .before .before .pre .0) (c .if1 .taken) (c .before .before .pre .1))
 
 returns-2 : tie.Need-returns-2
 returns-2 c = search needs

@@ -1,6 +1,6 @@
 -- `store_rest` meets its contract. The loop's invariant: the pixels of the codes before this place are stored. The measure is what is
 -- left of the data. Assumes nothing.
-use mathlib.Core.Path.{_≡_, _∙_, sym, ap}
+use mathlib.Core.Path.{_≡_, refl, _∙_, sym, ap}
 use Prim.Native.Nat.{_-_}
 use native.Mathlib.Omega.{arith}
 use lib.ListN.{length, drop}
@@ -10,14 +10,14 @@ use Rattle.pgs_base.specs.Refusals.{numberOf}
 use Rattle.pgs_bitmap.specs.RunLength.{run, lineEnd, found, truncated, codeOf}
 use Rattle.pgs_bitmap.specs.NextCode.{firstCode}
 use Rattle.pgs_bitmap.specs.Progress.{Storing}
-use Rattle.pgs_bitmap.proofs.OneCode.{code-escape}
+use Rattle.pgs_bitmap.proofs.OneCode.{code-pixel, code-escape}
 use Rattle.pgs_bitmap.proofs.BitmapSteps.{taken-at}
-use Rattle.pgs_bitmap.proofs.BitmapStores.{storing-room, storing-run, storing-pixel-room, storing-pixel, storing-line, storing-truncated, storing-end}
+use Rattle.pgs_bitmap.proofs.BitmapStores.{storing-run, storing-line, storing-truncated, storing-end}
 use Rattle.pgs_bitmap.proofs.bitmap.store_rest.Statement.{statement}
 use Rattle.pgs_bitmap.proofs.bitmap.store_rest.Tie as tie
 
 abbrev Inv-loop : tie.InvT-loop
-Inv-loop «data» from pixels₀ first at₀ out₀ pixels at out = Storing «data» pixels at out
+Inv-loop «data» from pixels₀ first at₀ out₀ pixels at out = (length pixels ≡ length pixels₀) × Storing «data» pixels at out
 
 abbrev μ-loop : tie.MeasureT-loop
 μ-loop «data» from pixels₀ first at₀ out₀ pixels at out = length «data» - at
@@ -36,16 +36,13 @@ line-end-here : (c : tie.After-enum-told Inv-loop μ-loop) → codeOf (drop (c .
 line-end-here c = code-here (c .before .before) ∙ ap firstCode (c .enum-told .given .1)
 
 loop-holds : tie.Need-loop-holds Inv-loop μ-loop
-loop-holds c = c .before .before .pre
+loop-holds c = (refl, c .before .before .pre)
 
 shared-slice-read-b : tie.Need-shared-slice-read-b Inv-loop μ-loop
-shared-slice-read-b c = search needs
+shared-slice-read-b c = omega arith
 
-slice-write-pixels : tie.Need-slice-write-pixels Inv-loop μ-loop
-slice-write-pixels c = storing-pixel-room (c .before .before .before .loop .inv) (c .before .before .loop-test .taken) (c .if1 .taken)
-
-add-out : tie.Need-add-out Inv-loop μ-loop
-add-out c = omega (arith, storing-pixel-room (c .before .before .before .loop .inv) (c .before .before .loop-test .taken) (c .if1 .taken), c .before .before .before .loop .inv .size, c .before .before .before .before .before .before .pre .size)
+fill-run-requires : tie.Need-fill-run-requires Inv-loop μ-loop
+fill-run-requires c κs = c .before .before .before .before .loop .inv .1 .inside
 
 add-at : tie.Need-add-at Inv-loop μ-loop
 add-at c = omega arith
@@ -54,7 +51,7 @@ loop-less : tie.Need-loop-less Inv-loop μ-loop
 loop-less c = omega arith
 
 loop-again : tie.Need-loop-again Inv-loop μ-loop
-loop-again c = storing-pixel (c .before .before .before .loop .inv) (c .before .before .loop-test .taken) (c .if1 .taken)
+loop-again c = (c .before .before .fill-run .kept .0 ∙ c .before .before .before .before .before .before .before .loop .inv .0, storing-run (c .before .before .before .before .before .before .before .loop .inv .1) (code-pixel (now (c .before .before .before .before .before .before .before .before .before .before .args .«data»)) (c .before .before .before .before .before .before .before .loop .at) (c .before .before .before .before .before .before .loop-test .taken) (c .before .before .before .before .if1 .taken)) (c .before .before .fill-run .kept .0) (c .before .before .fill-run .ensures))
 
 escape-at-requires : tie.Need-escape-at-requires Inv-loop μ-loop
 escape-at-requires c κs = search needs
@@ -62,47 +59,44 @@ escape-at-requires c κs = search needs
 enum-known-code : tie.Need-enum-known-code Inv-loop μ-loop
 enum-known-code c = search needs
 
-fill-requires : tie.Need-fill-requires Inv-loop μ-loop
-fill-requires c κs = storing-room (c .before .before .before .before .before .before .before .before .loop .inv) (run-here (c .before))
-
-add-out-2 : tie.Need-add-out-2 Inv-loop μ-loop
-add-out-2 c = omega (arith, storing-room (c .before .before .before .before .before .before .before .before .before .before .before .loop .inv) (run-here (c .before .before .before .before)), c .before .before .before .before .before .before .before .before .before .before .before .loop .inv .size, c .before .before .before .before .before .before .before .before .before .before .before .before .before .before .pre .size)
+fill-run-requires-2 : tie.Need-fill-run-requires-2 Inv-loop μ-loop
+fill-run-requires-2 c κs = c .before .before .before .before .before .before .before .before .loop .inv .1 .inside
 
 add-at-2 : tie.Need-add-at-2 Inv-loop μ-loop
-add-at-2 c = omega (arith, taken-at _ _ (c .before .before .before .before .before .before .before .before .before .before .before .loop .inv .within) (run-here (c .before .before .before .before)) .1)
+add-at-2 c = omega (arith, taken-at _ _ (c .before .before .before .before .before .before .before .before .before .before .before .loop .inv .1 .within) (run-here (c .before .before .before .before)) .1)
 
 loop-less-2 : tie.Need-loop-less-2 Inv-loop μ-loop
-loop-less-2 c = omega (arith, taken-at _ _ (c .before .before .before .before .before .before .before .before .before .before .before .loop .inv .within) (run-here (c .before .before .before .before)) .0, taken-at _ _ (c .before .before .before .before .before .before .before .before .before .before .before .loop .inv .within) (run-here (c .before .before .before .before)) .1)
+loop-less-2 c = omega (arith, taken-at _ _ (c .before .before .before .before .before .before .before .before .before .before .before .loop .inv .1 .within) (run-here (c .before .before .before .before)) .0, taken-at _ _ (c .before .before .before .before .before .before .before .before .before .before .before .loop .inv .1 .within) (run-here (c .before .before .before .before)) .1)
 
 loop-again-2 : tie.Need-loop-again-2 Inv-loop μ-loop
-loop-again-2 c = storing-run (c .before .before .before .before .before .before .before .before .before .before .before .loop .inv) _ (run-here (c .before .before .before .before)) (c .before .before .fill .kept .0) (c .before .before .fill .ensures)
+loop-again-2 c = (c .before .before .fill-run2 .kept .0 ∙ c .before .before .before .before .before .before .before .before .before .before .before .loop .inv .0, storing-run (c .before .before .before .before .before .before .before .before .before .before .before .loop .inv .1) (run-here (c .before .before .before .before)) (c .before .before .fill-run2 .kept .0) (c .before .before .fill-run2 .ensures))
 
 enum-told : tie.Need-enum-told Inv-loop μ-loop
 enum-told c = search needs
 
 add-at-3 : tie.Need-add-at-3 Inv-loop μ-loop
-add-at-3 c = omega (arith, taken-at _ _ (c .before .before .before .before .before .before .loop .inv .within) (line-end-here c) .1)
+add-at-3 c = omega (arith, taken-at _ _ (c .before .before .before .before .before .before .loop .inv .1 .within) (line-end-here c) .1)
 
 loop-less-3 : tie.Need-loop-less-3 Inv-loop μ-loop
-loop-less-3 c = omega (arith, taken-at _ _ (c .before .before .before .before .before .before .loop .inv .within) (line-end-here c) .1)
+loop-less-3 c = omega (arith, taken-at _ _ (c .before .before .before .before .before .before .loop .inv .1 .within) (line-end-here c) .1)
 
 loop-again-3 : tie.Need-loop-again-3 Inv-loop μ-loop
-loop-again-3 c = storing-line (c .before .before .before .before .before .before .loop .inv) (line-end-here c)
+loop-again-3 c = (c .before .before .before .before .before .before .loop .inv .0, storing-line (c .before .before .before .before .before .before .loop .inv .1) (line-end-here c))
 
 enum-told-2 : tie.Need-enum-told-2 Inv-loop μ-loop
 enum-told-2 c = search needs
 
 same-length : tie.Need-same-length Inv-loop μ-loop
-same-length c = c .before .before .before .before .before .before .loop .inv .size ∙ sym (c .before .before .before .before .before .before .before .before .before .pre .size)
+same-length c = c .before .before .before .before .before .before .loop .inv .0
 
 returns : tie.Need-returns Inv-loop μ-loop
-returns c = storing-truncated (c .before .before .before .before .before .before .loop .inv) (code-here (c .before .before) ∙ ap firstCode (c .enum-told2 .given .1))
+returns c = storing-truncated (c .before .before .before .before .before .before .loop .inv .1) (code-here (c .before .before) ∙ ap firstCode (c .enum-told2 .given .1))
 
 same-length-2 : tie.Need-same-length-2 Inv-loop μ-loop
-same-length-2 c = c .before .loop .inv .size ∙ sym (c .before .before .before .before .pre .size)
+same-length-2 c = c .before .loop .inv .0
 
 returns-2 : tie.Need-returns-2 Inv-loop μ-loop
-returns-2 c = storing-end (c .before .loop .inv) (c .loop-test .left)
+returns-2 c = storing-end (c .before .loop .inv .1) (c .loop-test .left)
 
 pub store-rest-spec : {M : Type 1} → statement M
 store-rest-spec =
@@ -112,15 +106,13 @@ store-rest-spec =
     μ-loop
     loop-holds
     shared-slice-read-b
-    slice-write-pixels
-    add-out
+    fill-run-requires
     add-at
     loop-less
     loop-again
     escape-at-requires
     enum-known-code
-    fill-requires
-    add-out-2
+    fill-run-requires-2
     add-at-2
     loop-less-2
     loop-again-2

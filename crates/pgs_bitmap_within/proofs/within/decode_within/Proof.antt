@@ -59,14 +59,14 @@ same-length c = search needs
 returns-2 : tie.Need-returns-2
 returns-2 c = refused-bitmap (now (c .before .before .before .before .before .before .before .before .args .memory)) (c .before .before .before .before .before .before .before .before .args .place) (c .before .before .before .before .before .before .before .before .args .len) (c .before .before .before .before .before .before .before .before .args .width) (c .before .before .before .before .before .before .before .before .args .height) (c .before .before .before .before .before .before .before .before .args .at) (room-here (c .before .before .before .before .before)) _ _ (c .before .before .check-rle .ensures) (ap outcome (c .enum-told2 .given .1))
 
-store-within-requires : tie.Need-store-within-requires
-store-within-requires c κs = has-room (now (c .before .before .before .before .before .before .before .before .before .args .memory)) (c .before .before .before .before .before .before .before .before .before .args .place) (c .before .before .before .before .before .before .before .before .before .args .len) (c .before .before .before .before .before .before .before .before .before .args .width) (c .before .before .before .before .before .before .before .before .before .args .height) (c .before .before .before .before .before .before .before .before .before .args .at) (room-here (c .before .before .before .before .before .before)) (accepts (c .before))
+store-codes-requires : tie.Need-store-codes-requires
+store-codes-requires c κs = has-room (now (c .before .before .before .before .before .before .before .before .before .args .memory)) (c .before .before .before .before .before .before .before .before .before .args .place) (c .before .before .before .before .before .before .before .before .before .args .len) (c .before .before .before .before .before .before .before .before .before .args .width) (c .before .before .before .before .before .before .before .before .before .args .height) (c .before .before .before .before .before .before .before .before .before .args .at) (room-here (c .before .before .before .before .before .before))
 
 same-length-2 : tie.Need-same-length-2
 same-length-2 c = search needs
 
 returns-3 : tie.Need-returns-3
-returns-3 c = stored-bitmap (now (c .before .before .before .before .before .before .before .before .before .before .before .before .args .memory)) (c .before .before .before .before .before .before .before .before .before .before .before .before .args .place) (c .before .before .before .before .before .before .before .before .before .before .before .before .args .len) (c .before .before .before .before .before .before .before .before .before .before .before .before .args .width) (c .before .before .before .before .before .before .before .before .before .before .before .before .args .height) (c .before .before .before .before .before .before .before .before .before .before .before .before .args .at) (room-here (c .before .before .before .before .before .before .before .before .before)) _ (accepts (c .before .before .before .before)) (c .before .before .store-within .ensures)
+returns-3 c = stored-bitmap (now (c .before .before .before .before .before .before .before .before .before .before .before .before .args .memory)) (c .before .before .before .before .before .before .before .before .before .before .before .before .args .place) (c .before .before .before .before .before .before .before .before .before .before .before .before .args .len) (c .before .before .before .before .before .before .before .before .before .before .before .before .args .width) (c .before .before .before .before .before .before .before .before .before .before .before .before .args .height) (c .before .before .before .before .before .before .before .before .before .before .before .before .args .at) (room-here (c .before .before .before .before .before .before .before .before .before)) _ (accepts (c .before .before .before .before)) (c .before .before .store-codes .ensures)
 
 pub decode-within-spec : {M : Type 1} → statement M
 decode-within-spec =
@@ -84,6 +84,6 @@ decode-within-spec =
     enum-told-2
     same-length
     returns-2
-    store-within-requires
+    store-codes-requires
     same-length-2
     returns-3)

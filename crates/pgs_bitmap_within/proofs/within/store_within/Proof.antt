@@ -1,84 +1,25 @@
--- `store_within` meets its contract. The loop's invariant: the pixels of the codes before this place are stored. The measure is what is
--- left of the data. Assumes nothing.
-use Prim.Native.Nat.{_-_}
-use native.Mathlib.Omega.{arith}
-use Rattle.pgs_bitmap_within.proofs.StoreLaws.{Storing, storing-begins, byte-there, run-fits, taken-fits, run-stored, all-stored}
+-- `store_within` meets its contract, by the test of the places. Assumes nothing.
+use mathlib.Core.Path.{sym, _∙_}
+use denote.Ref.{now}
+use borrow.Author.Needs.{needs}
+use Rattle.pgs_bitmap_within.proofs.Answers.{leaves, stores, has-place}
 use Rattle.pgs_bitmap_within.proofs.within.store_within.Statement.{statement}
 use Rattle.pgs_bitmap_within.proofs.within.store_within.Tie as tie
 
-abbrev Inv-loop : tie.InvT-loop
-Inv-loop memory₀ place len at end from₀ out₀ memory from out = Storing memory₀ place len at memory from out
+room-for-requires : tie.Need-room-for-requires
+room-for-requires c κs = search needs
 
-abbrev μ-loop : tie.MeasureT-loop
-μ-loop memory₀ place len at end from₀ out₀ memory from out = len - from
+store-codes-requires : tie.Need-store-codes-requires
+store-codes-requires c κs = has-place (now (c .before .before .before .before .args .memory)) (c .before .before .before .before .args .place) (c .before .before .before .before .args .len) (c .before .before .before .before .args .at) (sym (c .before .before .room-for .ensures) ∙ c .before .if1 .taken)
 
-add-end : tie.Need-add-end Inv-loop μ-loop
-add-end c = omega (arith, c .before .pre .behind)
+same-length : tie.Need-same-length
+same-length c = search needs
 
-loop-holds : tie.Need-loop-holds Inv-loop μ-loop
-loop-holds c = storing-begins (c .before .pre)
+returns : tie.Need-returns
+returns c = stores (now (c .before .before .before .before .before .before .before .args .memory)) (c .before .before .before .before .before .before .before .args .place) (c .before .before .before .before .before .before .before .args .len) (c .before .before .before .before .before .before .before .args .at) _ (sym (c .before .before .before .before .before .room-for .ensures) ∙ c .before .before .before .before .if1 .taken) (c .before .before .store-codes .ensures)
 
-sub-next-run : tie.Need-sub-next-run Inv-loop μ-loop
-sub-next-run c = omega arith
-
-part-next-run-start : tie.Need-part-next-run-start Inv-loop μ-loop
-part-next-run-start c = omega arith
-
-part-next-run-end : tie.Need-part-next-run-end Inv-loop μ-loop
-part-next-run-end c = omega (arith, c .before .before .before .before .pre .behind, c .before .before .before .before .pre .enough, c .before .before .loop .inv .front .same)
-
-next-run-requires : tie.Need-next-run-requires Inv-loop μ-loop
-next-run-requires c κs = byte-there (c .before .before .before .before .before .pre) (c .before .before .before .loop .inv) (c .before .before .loop-test .taken)
-
-add-to : tie.Need-add-to Inv-loop μ-loop
-add-to c = omega (arith, run-fits (c .before .before .before .before .before .before .before .pre) (c .before .before .before .before .before .loop .inv) (c .before .next-run .ensures), c .before .before .before .before .before .loop .inv .front .same)
-
-sub-fill : tie.Need-sub-fill Inv-loop μ-loop
-sub-fill c = omega arith
-
-part-fill-start : tie.Need-part-fill-start Inv-loop μ-loop
-part-fill-start c = omega arith
-
-part-fill-end : tie.Need-part-fill-end Inv-loop μ-loop
-part-fill-end c = omega (arith, run-fits (c .before .before .before .before .before .before .before .pre) (c .before .before .before .before .before .loop .inv) (c .before .next-run .ensures))
-
-fill-requires : tie.Need-fill-requires Inv-loop μ-loop
-fill-requires c κs = tt
-
-add-from : tie.Need-add-from Inv-loop μ-loop
-add-from c = omega (arith, taken-fits (c .before .before .before .before .before .before .before .before .before .before .before .before .pre) (c .before .before .before .before .before .before .before .before .before .before .loop .inv) (c .before .before .before .before .before .before .next-run .ensures), c .before .before .before .before .before .before .before .before .before .before .before .before .fits .len)
-
-loop-less : tie.Need-loop-less Inv-loop μ-loop
-loop-less c = omega (arith, c .before .before .before .before .before .before .next-run .ensures .some, c .before .before .before .before .before .before .before .before .before .loop-test .taken)
-
-loop-again : tie.Need-loop-again Inv-loop μ-loop
-loop-again c = run-stored (c .before .before .before .before .before .before .before .before .before .before .before .before .pre) (c .before .before .before .before .before .before .before .before .before .before .loop .inv) (c .before .before .before .before .before .before .next-run .ensures) _ (c .before .before .before .fill .ensures)
-
-same-length : tie.Need-same-length Inv-loop μ-loop
-same-length c = c .before .loop .inv .front .same
-
-returns : tie.Need-returns Inv-loop μ-loop
-returns c = all-stored (c .before .before .before .pre) (c .before .loop .inv) (c .loop-test .left)
+returns-2 : tie.Need-returns-2
+returns-2 c = leaves (now (c .before .before .before .args .memory)) (c .before .before .before .args .place) (c .before .before .before .args .len) (c .before .before .before .args .at) (sym (c .before .room-for .ensures) ∙ c .if1 .left)
 
 pub store-within-spec : {M : Type 1} → statement M
-store-within-spec =
-    tie.close
-    (tie.spec
-    Inv-loop
-    μ-loop
-    add-end
-    loop-holds
-    sub-next-run
-    part-next-run-start
-    part-next-run-end
-    next-run-requires
-    add-to
-    sub-fill
-    part-fill-start
-    part-fill-end
-    fill-requires
-    add-from
-    loop-less
-    loop-again
-    same-length
-    returns)
+store-within-spec = tie.close (tie.spec room-for-requires store-codes-requires same-length returns returns-2)
