@@ -21,7 +21,7 @@ check:
 diff:
 	tests/differential/run $(ARGS)
 
-# Every bitmap data of up to 4 bytes; some 30 minutes of one core. Part of it: ARGS="00 3F", first bytes from and to.
+# Every bitmap data of up to 4 bytes; some 30 minutes of an idle core. Part of it: ARGS="00 3F", first bytes from and to.
 exhaustive:
 	tests/differential/run exhaustive $(ARGS)
 
