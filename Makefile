@@ -37,7 +37,7 @@ diff differential:
 recorded:
 	tests/differential/run record crates/pgs_replay
 
-# Every bitmap data of up to 4 bytes; some 30 minutes of one core. Part of it: ARGS="00 3F", first bytes from and to.
+# Every bitmap data of up to 4 bytes; some 30 minutes of an idle core. Part of it: ARGS="00 3F", first bytes from and to.
 exhaustive:
 	tests/differential/run exhaustive $(ARGS)
 
