@@ -34,8 +34,8 @@ atEnd width height lines column =
 
 -- Reads on with so many lines ended and so many pixels in the line that is open. A run that passes the width is 24. A line end
 -- before the width is 29, one that makes the lines exceed the height 30. "Reading goes on past the last line to the end of the
--- data": there a run has no room, so only "codes of length 0 there are accepted". After the last code comes what ended the codes,
--- then the tests of the end.
+-- data": a run there is tested as in any line, and if it has pixels the bitmap is refused further on; "codes of length 0 there are
+-- accepted". After the last code comes what ended the codes, then the tests of the end.
 abbrev pub readFrom : (width height lines column : ℕ) → List Code → Verdict → Reading
 readFrom width height lines column [] ended = stopped (andThen ended (atEnd width height lines column))
 readFrom width height lines column (run count color ∷ codes) ended =

@@ -1,10 +1,10 @@
 -- The pixels that lead the data from a place on, at each thing that can stand there.
 -- Assumes nothing.
-use mathlib.Core.Path.{_≡_, refl, sym, ap, _∙_}
-use mathlib.Core.List.{List, [], _∷_, _++_}
-use Prim.Native.Nat.{ℕ, _+_, _-_, _≤_, _<_}
+use mathlib.Core.Path.{_≡_, sym, _∙_}
+use mathlib.Core.List.{List, []}
+use Prim.Native.Nat.{ℕ, _+_, _-_, _<_}
 use native.Mathlib.Omega.{arith}
-use lib.ListN.{length, drop, replicate}
+use lib.ListN.{length, drop}
 use Rattle.pgs_bitmap.specs.RunLength.{run, lineEnd, found, codeOf}
 use Rattle.pgs_bitmap.specs.Bitmap.{bitmapOf}
 use Rattle.pgs_bitmap.proofs.BitmapSteps.{taken-at, pixels-run, pixels-line, pixels-end}

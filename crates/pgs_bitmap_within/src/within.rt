@@ -1,8 +1,5 @@
-// Reading a bitmap and storing its pixels further on in the same memory. The data is lent for one code at a time, so that the memory
+// Storing the pixels of a bitmap further on in the memory that its data stands in. The data is lent for one code at a time, so that the memory
 // can be stored to in between.
-use pgs_base::refusal::Refusal;
-use pgs_bitmap::bitmap::Decoded;
-use pgs_bitmap::bitmap::check_rle;
 use pgs_bitmap::code::CodeAt;
 use pgs_bitmap::code::NextCode;
 use pgs_bitmap::code::next_code;
@@ -10,7 +7,7 @@ ghost use mathlib.Core.Path.{_≡_};
 ghost use Prim.Native.Nat.{_≤_, _<_};
 ghost use lib.ListN.{length, replicate};
 ghost use Rattle.pgs_bitmap.specs.Bitmap.{bitmapOf};
-ghost use Rattle.pgs_bitmap_within.specs.Within.{partAt, putAt, roomFor, shownFrom, storedWithin, DecodingWithin};
+ghost use Rattle.pgs_bitmap_within.specs.Within.{partAt, putAt, roomFor, shownFrom, storedWithin};
 ghost use Rattle.pgs_bitmap_within.specs.Storing.{Ahead, Room};
 
 // Pixels of one color, and the bytes of data that tell them.
@@ -94,9 +91,9 @@ fn store_codes(memory: &mut [u8], place: usize, len: usize, at: usize)
     }
 }
 
-// Whether the pixels begin after the data and lie inside a memory of this size.
-fn room_for(size: usize, place: usize, len: usize, at: usize, need: usize) -> bool
-    ensures { λ r. ⌜ r ≡ roomFor size place len at need ⌝ }
+// Whether the pixels begin after the data, inside a memory of this size.
+fn room_for(size: usize, place: usize, len: usize, at: usize) -> bool
+    ensures { λ r. ⌜ r ≡ roomFor size place len at ⌝ }
 {
     if at < place {
         return false;
@@ -104,10 +101,7 @@ fn room_for(size: usize, place: usize, len: usize, at: usize, need: usize) -> bo
     if at - place < len {
         return false;
     }
-    if size < at {
-        return false;
-    }
-    need <= size - at
+    at <= size
 }
 
 // Stores the pixels of the data at a place of the memory from `at` on, as many as there is room for. Nothing is tested but the room: for a
@@ -115,31 +109,7 @@ fn room_for(size: usize, place: usize, len: usize, at: usize, need: usize) -> bo
 pub fn store_within(memory: &mut [u8], place: usize, len: usize, at: usize)
     ensures { λ _. ⌜ now (memory .exit) ≡ storedWithin (now (memory .entry)) place len at ⌝ }
 {
-    if room_for(memory.len(), place, len, at, 0) {
+    if room_for(memory.len(), place, len, at) {
         store_codes(memory, place, len, at);
     }
-}
-
-// Reads the bitmap whose data stands at a place of the memory, and stores its width times height pixels from `at` on.
-pub fn decode_within(
-    memory: &mut [u8],
-    place: usize,
-    len: usize,
-    width: u16,
-    height: u16,
-    at: usize,
-) -> Decoded
-    ensures { λ r. ⌜ DecodingWithin (now (memory .entry)) place len width height at r (now (memory .exit)) ⌝ }
-{
-    let need = (width as usize) * (height as usize);
-    if !room_for(memory.len(), place, len, at, need) {
-        return Decoded::Refused(Refusal::BufferTooSmall);
-    }
-    let end = place + len;
-    let checked = check_rle(&memory[place..end], width, height);
-    let Decoded::Accepted = checked else {
-        return checked;
-    };
-    store_codes(memory, place, len, at);
-    Decoded::Accepted
 }

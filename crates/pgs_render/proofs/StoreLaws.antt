@@ -75,8 +75,8 @@ module _ (s r : List ℕ) (at : ℕ) (scratch : List ℕ) (st : Storable s r at 
           bitmap-area (partAt scratch (getD r 5 0) (getD r 6 0)) (getD r 2 0) (getD r 3 0)
           (ap (λ (b : List ℕ). readingOf b (getD r 2 0) (getD r 3 0) .verdict) is ∙ st .reads)
 
-      met : roomFor (length scratch) (getD r 5 0) (getD r 6 0) at 0 ≡ true
-      met = λ j. le-leb (getD r 5 0 + getD r 6 0) at (st .held .before away) j && le-leb (at + 0) (length scratch) (omega (arith, st .room)) j
+      met : roomFor (length scratch) (getD r 5 0) (getD r 6 0) at ≡ true
+      met = λ j. le-leb (getD r 5 0 + getD r 6 0) at (st .held .before away) j && le-leb at (length scratch) (omega (arith, st .room)) j
 
       whole : shownFrom (length scratch) at pixels ≡ pixels
       whole = take-all (length scratch - at) pixels (omega (arith, area, st .room))

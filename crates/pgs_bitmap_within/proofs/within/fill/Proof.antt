@@ -1,6 +1,6 @@
 -- `fill` meets its contract. The loop's invariant: so many cells of the run are stored. The measure is what is left of the part.
 -- Assumes nothing.
-use mathlib.Core.Path.{_≡_, _∙_}
+use mathlib.Core.Path.{_∙_}
 use mathlib.Core.List.{append-nil}
 use Prim.Native.Nat.{_-_, _≤_}
 use native.Mathlib.Nat.{zero-add}
