@@ -6,8 +6,8 @@ use mathlib.Core.List.{List, [], _∷_, _++_, append-assoc, append-nil}
 use Prim.Native.Nat.{ℕ, suc, _+_, _-_, _≤_, _<_}
 use native.Mathlib.Numerals.{add-one}
 use native.Mathlib.Omega.{arith}
-use lib.ListN.{length, take, drop, set, length-set, length-append, length-take, length-drop, take-append-drop}
-use lib.Seq.{take-suc-set, drop-set-lt, take-at, drop-at, drop-drop, length-take-le, take-all, append-snoc}
+use lib.ListN.{length, take, drop, set, length-set, length-append, length-drop, take-append-drop}
+use lib.Seq.{take-suc-set, drop-set-lt, take-at, drop-at, drop-drop, length-take-le}
 
 pub record Front {A : Type 0} (start whole now rest : List A) (k : ℕ) : Type 0 where
   pub within : k ≤ length now

@@ -1,6 +1,6 @@
 -- Laws of lists that lent parts need. Assumes nothing.
-use mathlib.Core.Path.{_≡_, sym, ap}
-use mathlib.Core.List.{List, _++_}
+use mathlib.Core.Path.{_≡_}
+use mathlib.Core.List.{List}
 use Prim.Native.Nat.{ℕ, _+_, _-_, _≤_}
 use native.Mathlib.Omega.{arith}
 use lib.ListN.{length, take, drop, length-drop}

@@ -1,11 +1,11 @@
 -- Laws of outcomes: what an answer tells of the verdict, and the three ways a call that fills a lent list ends. Assumes nothing.
-use mathlib.Core.Path.{_≡_, refl, sym, ap, _∙_}
+use mathlib.Core.Path.{_≡_, refl, ap}
 use mathlib.Core.Bool.{Bool, true, false}
 use mathlib.Core.List.{List}
 use Prim.Native.Nat.{ℕ, _≤_, _<_}
 use borrow.Author.Tests.{le-leb, lt-leb}
 use lib.ListN.{length}
-use Rattle.pgs_base.specs.Outcome.{Verdict, accepted, refused, Outcome, gives, refuses, outcomeOf, andThen, unless, isAccepted, laid, delivery, Delivered}
+use Rattle.pgs_base.specs.Outcome.{Verdict, accepted, refused, gives, refuses, outcomeOf, andThen, unless, isAccepted, laid, delivery, Delivered}
 
 module _ {X : Type 0} where
   -- values were given: the verdict accepts

@@ -1,15 +1,15 @@
 -- The list of codes: each code takes a byte at least and none that is not there, so the count of codes that bounds the definition's
 -- recursion does not matter, and the list of codes is the first code and the codes of what it leaves.
 -- Assumes nothing.
-use mathlib.Core.Path.{_≡_, refl, _∙_, sym, ap}
+use mathlib.Core.Path.{_≡_, refl, _∙_, ap}
 use mathlib.Core.Bool.{Bool, true, false}
-use mathlib.Core.List.{List, [], _∷_, _++_}
-use Prim.Native.Nat.{ℕ, zero, suc, _+_, _%_, _-_, _≤_, _<_}
+use mathlib.Core.List.{List, [], _∷_}
+use Prim.Native.Nat.{ℕ, zero, suc, _%_, _-_, _≤_, _<_}
 use native.Mathlib.Omega.{arith}
 use lib.Dec.{eqb, ltb}
-use lib.ListN.{length, drop, replicate, length-drop}
-use Rattle.pgs_base.specs.Outcome.{accepted, refused, pick}
-use Rattle.pgs_bitmap.specs.RunLength.{Code, run, lineEnd, FirstCode, none, found, truncated, codeOf, escapeOf, runOf, longZeroRun, shortColorRun, longColorRun, bytesTaken, Codes, andFurther, codesWithin, codesOf}
+use lib.ListN.{length, drop, length-drop}
+use Rattle.pgs_base.specs.Outcome.{pick}
+use Rattle.pgs_bitmap.specs.RunLength.{Code, FirstCode, none, found, truncated, codeOf, escapeOf, runOf, longZeroRun, shortColorRun, longColorRun, bytesTaken, Codes, andFurther, codesWithin, codesOf}
 
 -- of so many bytes a code takes one at least
 data Bounded (size : ℕ) : FirstCode → Type 0 where

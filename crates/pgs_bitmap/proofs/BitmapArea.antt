@@ -1,17 +1,17 @@
 -- An accepted bitmap has width times height pixels.
 -- Assumes nothing.
-use mathlib.Core.Path.{_≡_, refl, _∙_, sym, ap}
+use mathlib.Core.Path.{_≡_, refl, _∙_, ap}
 use mathlib.Core.Bool.{Bool, true, false, not, _&&_}
 use mathlib.Core.List.{List, [], _∷_, _++_}
-use Prim.Native.Nat.{ℕ, suc, _+_, _*_, _≤_, _<_}
+use Prim.Native.Nat.{ℕ, _+_, _*_}
 use native.Mathlib.Nat.{mul-comm, add-mul, one-mul}
 use native.Mathlib.Omega.{arith}
 use lib.Dec.{eqb, ltb, leb}
-use lib.ListN.{length, drop, replicate, length-append, length-replicate}
-use borrow.Author.Tests.{eqb-true, eqb-false}
+use lib.ListN.{length, replicate, length-append, length-replicate}
+use borrow.Author.Tests.{eqb-true}
 use Rattle.pgs_base.specs.Outcome.{Verdict, accepted, refused, andThen, unless, pick}
 use Rattle.pgs_bitmap.specs.RunLength.{Code, run, lineEnd, codesOf, pixelsOf}
-use Rattle.pgs_bitmap.specs.Bitmap.{Reading, counted, stopped, lastLineCounts, atEnd, readFrom, readOn, readingOf, bitmapOf}
+use Rattle.pgs_bitmap.specs.Bitmap.{counted, stopped, atEnd, readFrom, readingOf, bitmapOf}
 
 -- what an accepted verdict tells
 never : {A : Type 0} {k : ℕ} → refused k ≡ accepted → A

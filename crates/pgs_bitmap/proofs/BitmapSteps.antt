@@ -11,7 +11,7 @@ use lib.Seq.{drop-drop}
 use borrow.Author.Tests.{le-leb, lt-leb, lt-ltb, le-ltb, eq-eqb, ne-eqb}
 use lib.Dec.{eqb}
 use Rattle.pgs_base.specs.Outcome.{Verdict, refused, unless}
-use Rattle.pgs_bitmap.specs.RunLength.{Code, run, lineEnd, FirstCode, none, found, truncated, codeOf, runOf, Codes, andFurther, codesOf, pixelsOf}
+use Rattle.pgs_bitmap.specs.RunLength.{Code, run, lineEnd, none, found, truncated, codeOf, runOf, Codes, andFurther, codesOf, pixelsOf}
 use Rattle.pgs_bitmap.specs.Bitmap.{Reading, counted, stopped, lastLineCounts, atEnd, readFrom, readOn, readingOf, bitmapOf}
 use Rattle.pgs_bitmap.specs.Progress.{Reached, Ran, Stepped}
 use Rattle.pgs_bitmap.specs.declared.bitmap.Step.{Step}

@@ -1,6 +1,6 @@
 -- Bytes in a row that are one pixel each, which the check tests together.
 -- Assumes nothing.
-use mathlib.Core.Path.{_≡_, refl, sym, ap, _∙_, subst, subst₂}
+use mathlib.Core.Path.{_≡_, refl, subst, subst₂}
 use mathlib.Core.Bool.{Bool, true, false, not, _&&_}
 use mathlib.Core.List.{List}
 use Prim.Native.Nat.{ℕ, zero, suc, _+_, _-_, _≤_, _<_}
@@ -11,10 +11,10 @@ use lib.ListN.{length, getD, drop}
 use borrow.Author.Count.{below-more}
 use borrow.Author.Tests.{eqb-false, not-true}
 use Rattle.pgs_base.specs.Outcome.{Verdict, refused}
-use Rattle.pgs_bitmap.specs.Bitmap.{readOn, readingOf}
+use Rattle.pgs_bitmap.specs.Bitmap.{readOn}
 use Rattle.pgs_bitmap.specs.Progress.{Reached, Literals}
 use Rattle.pgs_bitmap.proofs.OneCode.{code-pixel}
-use Rattle.pgs_bitmap.proofs.BitmapSteps.{reached-start, reached-run, reached-overrun, reached-step}
+use Rattle.pgs_bitmap.proofs.BitmapSteps.{reached-run, reached-overrun, reached-step}
 
 module _ (l : List ℕ) (at : ℕ) where
   pub literals-none : Literals l at 0

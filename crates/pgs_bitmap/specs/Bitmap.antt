@@ -5,7 +5,7 @@ use mathlib.Core.Bool.{Bool, not, _&&_}
 use mathlib.Core.List.{List, [], _∷_}
 use lib.Dec.{eqb, ltb, leb}
 use Rattle.pgs_base.specs.Outcome.{Verdict, refused, andThen, unless, pick}
-use Rattle.pgs_bitmap.specs.RunLength.{Code, run, lineEnd, Codes, codesOf, pixelsOf}
+use Rattle.pgs_bitmap.specs.RunLength.{Code, run, lineEnd, codesOf, pixelsOf}
 
 -- What reading a bitmap comes to: whether it is accepted, and the number of codes completely read and accepted. A line end is a
 -- code; the code that causes a refusal is not counted. The number is what 02 asks for later; 01 asks for the verdict alone.

@@ -3,7 +3,7 @@ use Prim.Native.Nat.{ℕ, _+_, _*_}
 use mathlib.Core.Path.{_≡_}
 use mathlib.Core.List.{List}
 use lib.ListN.{length}
-use Rattle.pgs_base.specs.Outcome.{Verdict, unless, pick, laid}
+use Rattle.pgs_base.specs.Outcome.{unless, pick, laid}
 use Rattle.pgs_bitmap.specs.Bitmap.{bitmapOf}
 use Rattle.pgs_bitmap.specs.Decoding.{decodeVerdict}
 use Rattle.pgs_calls.specs.Calls.{codeOf}

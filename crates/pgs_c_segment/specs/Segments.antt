@@ -3,7 +3,7 @@
 use Prim.Native.Nat.{ℕ}
 use mathlib.Core.Path.{_≡_}
 use mathlib.Core.List.{List}
-use Rattle.pgs_base.specs.Outcome.{Verdict, laid, delivery}
+use Rattle.pgs_base.specs.Outcome.{delivery}
 use Rattle.pgs_calls.specs.Calls.{codeOf, becomes, ListCall}
 use Rattle.pgs_cells.specs.OdsCells.{odsCells}
 use Rattle.pgs_cells.specs.PcsCells.{pcsCells}

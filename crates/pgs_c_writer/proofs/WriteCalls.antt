@@ -8,9 +8,8 @@ use Rattle.pgs_base.specs.Outcome.{Verdict, accepted, refused, Outcome, gives, 
 use Rattle.pgs_base.proofs.Outcomes.{gave, gave-value, turned-down, delivers-refusal}
 use Rattle.pgs_calls.proofs.CallLaws.{code-refused, code-accepted, stays, turns}
 use Rattle.pgs_calls.specs.Calls.{codeOf, becomes, ListCall}
-use Rattle.pgs_c_writer.specs.Writing.{codeBy, setBy, WriteCall, WritesCall}
+use Rattle.pgs_c_writer.specs.Writing.{codeBy, setBy, WritesCall}
 use Rattle.pgs_encoding.specs.Encode.{encode}
-use Rattle.pgs_encoding.specs.Writes.{Written}
 use Rattle.pgs_segment.specs.Fields.{SegmentFields}
 use Rattle.pgs_stream.specs.Stream.{streamVerdict}
 use Rattle.pgs_stream_writer.specs.StreamWrites.{streamWrites, acceptedIn, writesDone, outputAfter}

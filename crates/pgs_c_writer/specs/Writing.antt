@@ -14,7 +14,7 @@ use Rattle.pgs_encoding.specs.Writable.{writable}
 use Rattle.pgs_segment.specs.Fields.{SegmentFields}
 use Rattle.pgs_stream.specs.Stream.{streamVerdict}
 use Rattle.pgs_stream_writer.specs.StreamWrites.{streamWrites, acceptedIn, outputAfter}
-use Rattle.pgs_writer_base.specs.Kinds.{odsSegment, pcsSegment, pcsRowsWritable}
+use Rattle.pgs_writer_base.specs.Kinds.{odsSegment, pcsRowsWritable}
 
 -- the number that an outcome answers, and the number of bytes after it
 abbrev pub codeBy : Outcome ℕ → ℕ

@@ -1,9 +1,9 @@
 -- From a layer's promise to the C interface's: the two ways a call ends. Assumes nothing.
-use mathlib.Core.Path.{_≡_, refl, sym, ap, _∙_}
+use mathlib.Core.Path.{_≡_, sym, ap, _∙_}
 use mathlib.Core.List.{List}
 use Prim.Native.Nat.{ℕ}
-use Rattle.pgs_base.specs.Outcome.{Verdict, accepted, refused, Outcome, gives, refuses, outcomeOf, delivery, Delivered}
-use Rattle.pgs_base.proofs.Outcomes.{delivered-refusal, delivered, delivered-value, gave, gave-value, turned-down}
+use Rattle.pgs_base.specs.Outcome.{Verdict, accepted, refused, Outcome, gives, refuses, delivery, Delivered}
+use Rattle.pgs_base.proofs.Outcomes.{gave, gave-value, turned-down}
 use Rattle.pgs_calls.specs.Calls.{codeOf, becomes, ListCall}
 
 -- a verdict's number, and a parameter under a verdict that is known

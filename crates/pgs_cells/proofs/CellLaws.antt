@@ -1,19 +1,16 @@
 -- Cells that are too large for their fields, and cells that fit. Assumes nothing.
-use mathlib.Core.Path.{_≡_, refl, sym, ap, _∙_}
-use mathlib.Core.Bool.{Bool, true, false}
-use mathlib.Core.List.{List, [], _∷_}
+use mathlib.Core.Path.{_≡_, sym, ap, _∙_}
+use mathlib.Core.List.{List}
 use Prim.Native.Nat.{ℕ, _^_, _≤_, _<_}
 use native.Mathlib.Omega.{arith}
 use borrow.Author.Tests.{lt-ltb, le-ltb, le-leb, lt-leb, eq-eqb, ne-eqb}
 use lib.ListN.{getD}
-use Rattle.pgs_base.specs.Outcome.{Verdict, Outcome, gives, refuses, outcomeOf, unless}
+use Rattle.pgs_base.specs.Outcome.{Verdict, gives, refuses, outcomeOf, unless}
 use Rattle.pgs_base.proofs.Outcomes.{gave, gave-value, turned-down}
 use Rattle.pgs_cells.specs.OdsCells.{dimensionsFrom, dimensionsFit, odsFrom, odsCellsFit}
 use Rattle.pgs_cells.specs.PcsCells.{pcsFrom, pcsCellsFit}
 use Rattle.pgs_segment.specs.declared.ods.Dimensions.{Dimensions}
 use Rattle.pgs_segment.specs.declared.ods.Dimensions.the-variants.{Absent, Present}
-use Rattle.pgs_segment.specs.declared.ods.Ods.{Ods}
-use Rattle.pgs_segment.specs.declared.pcs.Pcs.{Pcs}
 
 module _ (m w h : ℕ) where
   pub absent : m ≡ 0 → gives Absent ≡ outcomeOf (unless 35 (dimensionsFit m w h)) (dimensionsFrom m w h)

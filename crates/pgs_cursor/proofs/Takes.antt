@@ -1,13 +1,13 @@
 -- The two ways a cursor's read ends, over the width. Assumes nothing.
-use mathlib.Core.Path.{_≡_, refl, sym, ap, _∙_}
+use mathlib.Core.Path.{_≡_, ap, _∙_}
 use mathlib.Core.List.{List}
 use Prim.Native.Nat.{ℕ, _+_, _-_, _≤_, _<_}
 use native.Mathlib.Omega.{arith}
 use borrow.Author.Tests.{le-leb, lt-leb}
 use lib.ListN.{length}
-use Rattle.pgs_base.specs.Bytes.{big, num}
+use Rattle.pgs_base.specs.Bytes.{big}
 use Rattle.pgs_cursor.specs.Cursor.{takenAt}
-use Rattle.pgs_base.specs.Outcome.{Outcome, gives, refuses}
+use Rattle.pgs_base.specs.Outcome.{gives, refuses}
 use Rattle.pgs_base.proofs.Bytes.{cells, num-cells}
 
 module _ (w pos : ℕ) (body : List ℕ) where

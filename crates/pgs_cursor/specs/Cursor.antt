@@ -7,7 +7,6 @@ use lib.Dec.{leb}
 use Rattle.pgs_base.specs.Bytes.{num}
 use Rattle.pgs_base.specs.Outcome.{Outcome, gives, refuses, pick}
 use Rattle.pgs_base.specs.Refusals.{numberOf}
-use Rattle.pgs_cursor.specs.declared.cursor.BodyCursor.{BodyCursor}
 use Rattle.pgs_cursor.specs.declared.cursor.Taken.{Taken}
 use Rattle.pgs_cursor.specs.declared.cursor.Taken.the-variants.{Number, Refused}
 

@@ -1,21 +1,20 @@
 -- The customer's third demand, proved: `same-fields-same-cut`, `writes-of-a-stream`, `whole-stream`, `begins-there`. Assumes nothing.
 use mathlib.Core.Path.{_≡_, refl, sym, ap, _∙_, subst}
 use mathlib.Core.Bool.{Bool, true, false}
-use mathlib.Core.List.{List, [], _∷_, _++_, map, append-assoc, append-nil}
+use mathlib.Core.List.{List, [], _∷_, _++_, map, append-assoc}
 use Prim.Native.Nat.{ℕ, zero, suc, _+_, _-_, _≤_, _<_}
 use native.Mathlib.Nat.{zero-add}
 use native.Mathlib.Omega.{arith}
 use borrow.Author.Tests.{leb-true, leb-false, le-leb, lt-leb}
 use lib.Dec.{leb}
-use lib.ListN.{length, take, drop, getD, replicate, length-append, length-drop, length-take, length-map, take-append-drop}
+use lib.ListN.{length, take, drop, getD, replicate, length-append, length-drop, length-map, take-append-drop}
 use lib.Seq.{take-at, drop-at, take-all, take-take, length-take-le, drop-drop}
 use Rattle.pgs_base.specs.Bytes.{Bytes}
-use Rattle.pgs_base.specs.Outcome.{Verdict, accepted, refused, isAccepted, unless, needing, laid, delivery, pick}
+use Rattle.pgs_base.specs.Outcome.{Verdict, accepted, refused, isAccepted, unless, needing, laid}
 use Rattle.pgs_base.proofs.Digits.{bytes-drop, bytes-take}
-use Rattle.pgs_base.proofs.Outcomes.{is-accepted, first-accepts}
 use Rattle.pgs_segment.specs.Fields.{SegmentFields}
-use Rattle.pgs_segment.specs.OneSegment.{segmentVerdict, usedBy, fieldsOf}
-use Rattle.pgs_stream.specs.Stream.{Reading, stepVerdict, before, readFirst, readOf, streamFields, joined}
+use Rattle.pgs_segment.specs.OneSegment.{usedBy, fieldsOf}
+use Rattle.pgs_stream.specs.Stream.{Reading, stepVerdict, readFirst, readOf, streamFields, joined}
 use Rattle.pgs_stream.proofs.ReadingLaws.{Each, Whole, own-fields, pieces-whole}
 use Rattle.pgs_segment.proofs.RecordLaws.{first-fits, rest-fits}
 use Rattle.pgs_stream.proofs.StreamLaws.{read-on, read-stops, step-accepted}

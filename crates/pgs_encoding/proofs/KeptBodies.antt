@@ -1,14 +1,14 @@
 -- A body that was read, written again from its fields: the bytes that are kept of it. Assumes nothing.
-use mathlib.Core.Path.{_≡_, refl, sym, ap, _∙_, subst}
+use mathlib.Core.Path.{_≡_, refl, sym, ap, _∙_}
 use mathlib.Core.Bool.{Bool, true, false}
 use mathlib.Core.List.{List, [], _∷_, _++_}
-use Prim.Native.Nat.{ℕ, zero, suc, _+_, _-_, _*_, _/_, _%_, _≤_, _<_}
+use Prim.Native.Nat.{ℕ, _+_, _-_, _*_, _%_, _≤_}
 use native.Mathlib.Omega.{arith}
-use borrow.Author.Tests.{leb-true, eqb-true, lt-ltb}
-use lib.Dec.{leb, eqb, ltb}
+use borrow.Author.Tests.{eqb-true}
+use lib.Dec.{leb, eqb}
 use lib.ListN.{length, take, drop, length-drop, take-append-drop}
 use lib.Seq.{take-add, take-length}
-use Rattle.pgs_base.specs.Bytes.{num, Bytes}
+use Rattle.pgs_base.specs.Bytes.{Bytes}
 use Rattle.pgs_views.specs.Fragments.{fragmentOf, isFirst}
 use Rattle.pgs_base.specs.Outcome.{accepted, unless, pick}
 use Rattle.pgs_base.proofs.Digits.{bytes-drop}
@@ -18,8 +18,8 @@ use Rattle.pgs_views.specs.declared.«segment_type».SegmentType.the-variants a
 use Rattle.pgs_segment.specs.Fields.{bodyVerdict, bodyOf}
 use Rattle.pgs_segment.specs.OdsBody.{odsOf, odsData, odsVerdict, flagOf, headSize}
 use Rattle.pgs_segment.specs.PcsBody.{pcsOf, placementOf, placementSize, placementCount, placementsOf, pcsVerdict}
-use Rattle.pgs_segment.specs.PdsBody.{pdsOf, entryOf, entrySize, entryCount, entriesOf, pdsVerdict}
-use Rattle.pgs_segment.specs.Records.{records, recordsFit, recordsSize}
+use Rattle.pgs_segment.specs.PdsBody.{entryOf, entrySize, entryCount, entriesOf, pdsVerdict}
+use Rattle.pgs_segment.specs.Records.{recordsSize}
 use Rattle.pgs_segment.specs.declared.pds.PaletteEntry.{PaletteEntry}
 use Rattle.pgs_segment.specs.declared.wds.Window.{Window}
 use Rattle.pgs_segment.specs.WdsBody.{windowOf, windowSize, windowCount, windowsOf, wdsVerdict}
@@ -28,10 +28,10 @@ use Rattle.pgs_segment.proofs.PcsLaws as pcs-laws
 use Rattle.pgs_segment.proofs.PdsLaws as pds-laws
 use Rattle.pgs_segment.proofs.RecordLaws.{records-length, size-fixed}
 use Rattle.pgs_segment.proofs.WdsLaws as wds-laws
-use Rattle.pgs_encoding.specs.Encode.{bodyBytes, pcsFields, placementFields, windowFields, pdsFields, entryFields, odsFields}
-use Rattle.pgs_encoding.specs.Layout.{Field, written, allFit, each, recordBytes}
-use Rattle.pgs_encoding.specs.Writable.{bodyWritable, placementWritable, unknownKind, odsWritable}
-use Rattle.pgs_encoding.proofs.LayoutLaws.{write-fields, fit-fields, num-bound}
+use Rattle.pgs_encoding.specs.Encode.{bodyBytes, pcsFields, placementFields, windowFields, entryFields, odsFields}
+use Rattle.pgs_encoding.specs.Layout.{written, allFit, each}
+use Rattle.pgs_encoding.specs.Writable.{bodyWritable, placementWritable, unknownKind}
+use Rattle.pgs_encoding.proofs.LayoutLaws.{write-fields, fit-fields}
 use Rattle.pgs_encoding.proofs.RecordBytes.{write-records, each-record, records-within}
 use Rattle.pgs_encoding.proofs.RecordKinds.{window-kept, entry-kept, placement-kept}
 

@@ -1,20 +1,18 @@
 -- Fields written and read back, and read and written back, over any layout; and the same for records of any kind. Assumes nothing.
 use mathlib.Core.Path.{_≡_, refl, sym, ap, _∙_}
-use mathlib.Core.Bool.{Bool, true, false}
-use mathlib.Core.List.{List, [], _∷_, _++_, map, append-assoc}
-use Prim.Native.Nat.{ℕ, zero, suc, _+_, _-_, _*_, _^_, _≤_, _<_}
+use mathlib.Core.Bool.{true}
+use mathlib.Core.List.{List, [], _∷_, _++_, append-assoc}
+use Prim.Native.Nat.{ℕ, suc, _+_, _-_, _*_, _^_, _≤_, _<_}
 use native.Mathlib.Nat.{pow-succ', mul-le-mul-right}
 use native.Mathlib.Omega.{arith}
-use borrow.Author.Tests.{ltb-true, lt-ltb, leb-true, le-leb}
-use lib.Dec.{ltb, leb}
-use lib.ListN.{length, take, drop, getD, length-append, length-drop}
-use lib.Seq.{take-add, drop-drop, length-take-le, take-at, drop-at}
+use borrow.Author.Tests.{ltb-true, lt-ltb}
+use lib.Dec.{ltb}
+use lib.ListN.{length, take, drop, length-append, length-drop}
+use lib.Seq.{take-add, drop-drop, length-take-le}
 use Rattle.pgs_base.specs.Bytes.{big, num, bytesOf, Bytes}
-use Rattle.pgs_base.specs.Outcome.{pick}
 use Rattle.pgs_base.proofs.Digits.{length-bytes, num-bytes, bytes-num, bytes-take, bytes-drop}
-use Rattle.pgs_segment.specs.Records.{records, recordsFit, recordsSize}
 use Rattle.pgs_segment.proofs.RecordLaws.{first-fits, rest-fits}
-use Rattle.pgs_encoding.specs.Layout.{Field, written, allFit, each, recordBytes}
+use Rattle.pgs_encoding.specs.Layout.{Field, written, allFit}
 
 -- the numbers of fields of these widths, from a place on
 abbrev pub numbersAt : List ℕ → ℕ → List ℕ → List ℕ

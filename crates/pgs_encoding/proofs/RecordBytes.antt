@@ -1,15 +1,14 @@
 -- Records of any kind: read and written back, written and read back. Assumes nothing.
-use mathlib.Core.Path.{_≡_, refl, sym, ap, _∙_}
-use mathlib.Core.Bool.{Bool, true, false}
+use mathlib.Core.Path.{_≡_, refl, ap}
+use mathlib.Core.Bool.{Bool, true}
 use mathlib.Core.List.{List, [], _∷_, _++_, append-assoc}
-use Prim.Native.Nat.{ℕ, zero, suc, _+_, _-_, _≤_, _<_}
+use Prim.Native.Nat.{ℕ, zero, suc, _+_, _-_, _≤_}
 use native.Mathlib.Omega.{arith}
 use borrow.Author.Tests.{leb-true, le-leb}
 use lib.Dec.{leb}
 use lib.ListN.{length, take, drop, length-append, length-drop}
 use lib.Seq.{take-add, drop-at}
 use Rattle.pgs_base.specs.Bytes.{Bytes}
-use Rattle.pgs_base.specs.Outcome.{pick}
 use Rattle.pgs_base.proofs.Digits.{bytes-drop}
 use Rattle.pgs_segment.specs.Records.{records, recordsFit, recordsSize}
 use Rattle.pgs_segment.proofs.RecordLaws.{first-fits, rest-fits}

@@ -1,20 +1,17 @@
 -- Windows, entries and placements: each is written back from what was read, and read back from what was written. Assumes nothing.
 use mathlib.Core.Path.{_≡_, refl, sym, ap, _∙_, subst}
-use mathlib.Core.Bool.{Bool, true, false, not}
+use mathlib.Core.Bool.{Bool, true, false}
 use mathlib.Core.List.{List, [], _∷_, _++_}
-use Prim.Native.Nat.{ℕ, _+_, _≤_, _<_}
+use Prim.Native.Nat.{ℕ, _+_, _≤_}
 use native.Mathlib.Omega.{arith}
 use borrow.Author.Tests.{not-true}
 use lib.Dec.{eqb}
-use lib.ListN.{length, take, drop, getD}
-use Rattle.pgs_base.specs.Bytes.{num, Bytes}
-use Rattle.pgs_base.specs.Outcome.{pick}
+use lib.ListN.{length, take, getD}
 use Rattle.pgs_segment.specs.PcsBody.{cropped, croppingOf, placementOf, placementSize}
 use Rattle.pgs_segment.specs.PdsBody.{entryOf, entrySize}
 use Rattle.pgs_segment.specs.WdsBody.{windowOf, windowSize}
 use Rattle.pgs_segment.proofs.RecordLaws.{first-fits, rest-fits}
 use Rattle.pgs_segment.specs.declared.pcs.CompositionObject.{CompositionObject}
-use Rattle.pgs_segment.specs.declared.pcs.CompositionObjectCrop.{CompositionObjectCrop}
 use Rattle.pgs_segment.specs.declared.pcs.Cropping.{Cropping}
 use Rattle.pgs_segment.specs.declared.pcs.Cropping.the-variants.{Uncropped, Cropped}
 use Rattle.pgs_segment.specs.declared.pds.PaletteEntry.{PaletteEntry}
@@ -22,7 +19,7 @@ use Rattle.pgs_segment.specs.declared.wds.Window.{Window}
 use Rattle.pgs_encoding.specs.Encode.{windowFields, entryFields, placementFields, cropFields}
 use Rattle.pgs_encoding.specs.Layout.{Field, written, allFit}
 use Rattle.pgs_encoding.specs.Writable.{cropWhere, placementWritable}
-use Rattle.pgs_encoding.proofs.LayoutLaws.{numbersAt, values, length-written, read-fields, write-fields, fit-fields}
+use Rattle.pgs_encoding.proofs.LayoutLaws.{values, length-written, read-fields, write-fields, fit-fields}
 use Rattle.pgs_encoding.proofs.RecordBytes.{Kept, Read}
 
 -- windows

@@ -6,7 +6,7 @@ use mathlib.Core.List.{List, [], _∷_, _++_, append-assoc, append-nil}
 use Prim.Native.Nat.{ℕ, zero, suc, _+_, _-_, _*_, _^_, _≤_, _<_}
 use native.Mathlib.Omega.{arith}
 use borrow.Author.Tests.{le-leb, lt-ltb, eq-eqb, eqb-true, ltb-true, ltb-false}
-use lib.Dec.{leb, ltb, eqb}
+use lib.Dec.{ltb, eqb}
 use lib.ListN.{length, take, drop, getD, length-append, length-drop, List·getD-eq-default, drop-of-length-le}
 use lib.Seq.{take-all, take-at, drop-at, length-take-le}
 use Rattle.pgs_base.specs.Bytes.{num, bytesOf, Bytes}
@@ -16,14 +16,14 @@ use Rattle.pgs_base.proofs.Bytes.{num-byte}
 use Rattle.pgs_base.proofs.Digits.{bytes-drop, bytes-take}
 use Rattle.pgs_views.specs.declared.«segment_type».SegmentType.{SegmentType}
 use Rattle.pgs_views.specs.declared.«segment_type».SegmentType.the-variants as kinds
-use Rattle.pgs_segment.specs.Fields.{BodyFields, SegmentFields, bodyVerdict, bodyOf, kindByte}
+use Rattle.pgs_segment.specs.Fields.{SegmentFields, bodyVerdict, bodyOf, kindByte}
 use Rattle.pgs_segment.specs.Header.{ptsOf, dtsOf, kindOf, sizeOf, marked}
 use Rattle.pgs_segment.specs.OneSegment.{segmentType, usedBy, bodyAt, segmentVerdict, fieldsOf}
 use Rattle.pgs_segment.specs.PcsBody.{placementSize}
 use Rattle.pgs_segment.specs.Records.{recordsSize}
 use Rattle.pgs_stream.proofs.ReadingLaws.{Whole, kind-byte}
 use Rattle.pgs_segment.proofs.RecordLaws.{first-fits, rest-fits}
-use Rattle.pgs_segment.proofs.SegmentLaws.{has-header, accepted-head, accepted-size, accepted-body, accepted-mark}
+use Rattle.pgs_segment.proofs.SegmentLaws.{has-header, accepted-head, accepted-body, accepted-mark}
 use Rattle.pgs_encoding.specs.Cut.{keptPlacement, keptPlacements, kept, cutSegment}
 use Rattle.pgs_encoding.specs.Encode.{headFields, bodyBytes, encode}
 use Rattle.pgs_encoding.specs.Layout.{Field, written, allFit}

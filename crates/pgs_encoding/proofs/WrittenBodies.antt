@@ -1,26 +1,24 @@
 -- A body that was written from fields, read again: the fields. Assumes nothing.
 use mathlib.Core.Path.{_≡_, refl, sym, ap, _∙_, subst}
-use mathlib.Core.Bool.{Bool, true, false, not}
+use mathlib.Core.Bool.{Bool, true, false}
 use mathlib.Core.List.{List, [], _∷_, _++_, append-nil}
-use Prim.Native.Nat.{ℕ, zero, suc, _+_, _-_, _*_, _/_, _%_, _≤_, _<_}
+use Prim.Native.Nat.{ℕ, _+_, _-_, _*_, _%_, _≤_}
 use native.Mathlib.Omega.{arith}
 use borrow.Author.Tests.{le-leb, eq-eqb, not-true}
-use lib.Dec.{leb, eqb}
-use lib.ListN.{length, take, drop, getD, length-append, length-drop}
+use lib.ListN.{length, drop, getD, length-append}
 use lib.Seq.{drop-at}
-use Rattle.pgs_base.specs.Bytes.{num}
 use Rattle.pgs_views.specs.Fragments.{fragmentOf, isFirst}
 use Rattle.pgs_views.specs.Kinds.{typeOf, rawOf}
-use Rattle.pgs_base.specs.Outcome.{accepted, pick}
+use Rattle.pgs_base.specs.Outcome.{accepted}
 use Rattle.pgs_views.proofs.Views.{raw-type}
 use Rattle.pgs_views.specs.declared.«segment_type».SegmentType.{SegmentType}
 use Rattle.pgs_views.specs.declared.«segment_type».SegmentType.the-variants as kinds
 use Rattle.pgs_segment.specs.Fields.{BodyFields, pcs, wds, pds, ods, end, other, bodyVerdict, bodyOf, kindByte}
 use Rattle.pgs_segment.specs.OdsBody.{odsOf, odsData, odsVerdict, flagOf, headSize, dimensionsOf}
-use Rattle.pgs_segment.specs.PcsBody.{pcsOf, placementOf, placementSize, placementCount, placementsOf, pcsVerdict}
-use Rattle.pgs_segment.specs.PdsBody.{pdsOf, entryOf, entrySize, entryCount, entriesOf, pdsVerdict}
-use Rattle.pgs_segment.specs.Records.{records, recordsFit, recordsSize}
-use Rattle.pgs_segment.specs.WdsBody.{windowOf, windowSize, windowCount, windowsOf, wdsVerdict}
+use Rattle.pgs_segment.specs.PcsBody.{pcsOf, placementOf, placementSize, placementCount, placementsOf}
+use Rattle.pgs_segment.specs.PdsBody.{pdsOf, entryOf, entrySize, entryCount, entriesOf}
+use Rattle.pgs_segment.specs.Records.{records, recordsFit}
+use Rattle.pgs_segment.specs.WdsBody.{windowOf, windowSize, windowCount, windowsOf}
 use Rattle.pgs_segment.specs.declared.ods.Dimensions.{Dimensions}
 use Rattle.pgs_segment.specs.declared.ods.Dimensions.the-variants.{Absent, Present}
 use Rattle.pgs_segment.specs.declared.ods.Ods.{Ods}
@@ -32,7 +30,7 @@ use Rattle.pgs_segment.specs.declared.wds.Window.{Window}
 use Rattle.pgs_segment.proofs.RecordLaws.{first-fits, rest-fits}
 use Rattle.pgs_encoding.specs.Encode.{bodyBytes, pcsFields, placementFields, windowFields, pdsFields, entryFields, odsFields, dimensionFields}
 use Rattle.pgs_encoding.specs.Layout.{Field, written, allFit, each, recordBytes}
-use Rattle.pgs_encoding.specs.Writable.{bodyWritable, placementWritable, unknownKind, odsWritable, dimensionsWhere}
+use Rattle.pgs_encoding.specs.Writable.{bodyWritable, placementWritable, unknownKind, dimensionsWhere}
 use Rattle.pgs_encoding.proofs.LayoutLaws.{values, length-written, read-fields}
 use Rattle.pgs_encoding.proofs.RecordBytes.{Read, read-records, written-fit}
 use Rattle.pgs_encoding.proofs.RecordKinds.{window-read, entry-read, placement-read}

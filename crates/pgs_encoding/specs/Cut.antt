@@ -2,7 +2,7 @@
 -- body: of a PCS 11 bytes, the last being the count, and 8 per placement, 16 if its fourth byte is 40; of a WDS the count and 9 per
 -- window; else all. In order they make the cut stream." What is cut off is the tail.
 use Prim.Native.Nat.{ℕ, zero, suc, _+_, _*_}
-use mathlib.Core.List.{List, [], _∷_, _++_, map}
+use mathlib.Core.List.{List, _++_, map}
 use lib.Dec.{eqb}
 use lib.ListN.{length, take, drop, getD}
 use Rattle.pgs_base.specs.Bytes.{bytesOf}

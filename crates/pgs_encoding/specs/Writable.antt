@@ -2,9 +2,8 @@
 -- present other than exactly at flag 40, dimensions present other than exactly at a first fragment, or an unknown kind carrying one of
 -- the five known bytes." The first three are numbers that do not fit their fields: a count in 1 byte, a size in 2, a declared length in
 -- 3. So is any other number that its field cannot hold, which the papers leave free.
-use Prim.Native.Nat.{ℕ}
 use mathlib.Core.Bool.{Bool, true, false, not}
-use mathlib.Core.List.{List, [], _∷_}
+use mathlib.Core.List.{[], _∷_}
 use lib.Dec.{eqb}
 use lib.ListN.{length}
 use Rattle.pgs_views.specs.Fragments.{fragmentOf, isFirst}
@@ -20,7 +19,7 @@ use Rattle.pgs_segment.specs.declared.pcs.CompositionObject.{CompositionObject}
 use Rattle.pgs_segment.specs.declared.pcs.Cropping.{Cropping}
 use Rattle.pgs_segment.specs.declared.pcs.Cropping.the-variants.{Uncropped, Cropped}
 use Rattle.pgs_encoding.specs.Encode.{headFields, placementFields, pcsFields, windowFields, pdsFields, entryFields, odsFields, bodyBytes}
-use Rattle.pgs_encoding.specs.Layout.{Field, allFit, each}
+use Rattle.pgs_encoding.specs.Layout.{allFit, each}
 
 -- a crop is present exactly where the first test holds
 abbrev pub cropWhere : Bool → Cropping → Bool

@@ -1,21 +1,18 @@
 -- The table of chains: finding an id, and what one more fragment does. Assumes nothing.
 use mathlib.Core.Path.{_≡_, refl, sym, ap, _∙_}
 use mathlib.Core.Bool.{Bool, true, false}
-use mathlib.Core.List.{List, [], _∷_, _++_, map, append-nil, append-assoc}
+use mathlib.Core.List.{List, [], _∷_, _++_, map, append-nil}
 use Prim.Native.Nat.{ℕ, zero, suc, _+_, _-_, _≤_, _<_}
 use native.Mathlib.Omega.{arith}
-use native.Mathlib.Numerals.{add-one}
-use native.Mathlib.Nat.{add-zero, add-suc}
-use borrow.Author.Tests.{eq-eqb, ne-eqb, eqb-true, eqb-false, lt-ltb, le-ltb}
-use lib.Dec.{leb, ltb, eqb}
-use lib.ListN.{length, take, drop, set, getD, length-append, length-take, length-set, length-map, drop-of-length-le}
-use lib.Seq.{drop-cons, take-suc-set, take-set-lt, length-take-le, getD-take}
-use Rattle.pgs_base.specs.Outcome.{Verdict, accepted, refused, Outcome, gives, refuses, pick, unless}
+use borrow.Author.Tests.{eq-eqb, ne-eqb, eqb-true, eqb-false}
+use lib.Dec.{eqb}
+use lib.ListN.{length, drop, set, getD, length-append, drop-of-length-le}
+use Rattle.pgs_base.specs.Outcome.{pick}
 use Rattle.pgs_set.proofs.Choices.{pick-first, pick-second}
 use Rattle.pgs_object.proofs.Lists.{drop-next}
-use Rattle.pgs_object.specs.Objects.{Fragment, Chain, ChainState, unseen, continuing, complete, idOf, opensChain, closesChain, dataPlace, objectId, withId, chainsOf, anyLast, ended, joined, dataOf, stateOf, fragmentVerdict, firstVerdict, nextVerdict, declaredLength, versionOf, widthOf, heightOf}
-use Rattle.pgs_object.specs.Reassembly.{anyMore, copied}
-use Rattle.pgs_object.specs.Tables.{headOf, chainRow, rowWith, total, Distinct, Holds, Grown}
+use Rattle.pgs_object.specs.Objects.{Fragment, Chain, unseen, continuing, complete, idOf, opensChain, closesChain, dataPlace, objectId, withId, chainsOf, anyLast, ended, joined, stateOf, declaredLength, versionOf, widthOf, heightOf}
+use Rattle.pgs_object.specs.Reassembly.{anyMore}
+use Rattle.pgs_object.specs.Tables.{headOf, chainRow, rowWith, total, Distinct}
 use Rattle.pgs_object.specs.declared.chain.FragmentHead.{FragmentHead}
 
 -- the loop that finds an id

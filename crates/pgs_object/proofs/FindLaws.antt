@@ -2,19 +2,16 @@
 use mathlib.Core.Path.{_≡_, refl, sym, ap, _∙_}
 use mathlib.Core.Bool.{Bool, true, false}
 use mathlib.Core.List.{List, [], _∷_, _++_, append-assoc, append-nil}
-use Prim.Native.Nat.{ℕ, _+_, _-_, _≤_, _<_, _^_}
+use Prim.Native.Nat.{ℕ, _+_, _-_, _≤_}
 use native.Mathlib.Omega.{arith}
 use lib.ListN.{length, take, drop}
-use lib.Seq.{append-snoc}
-use Rattle.pgs_base.specs.Outcome.{Verdict, accepted, refused, Outcome, gives, refuses, andThen, pick}
-use Rattle.pgs_segment.specs.Header.{headerFields, sizeOf}
+use Rattle.pgs_base.specs.Outcome.{Verdict, accepted, refused, gives, refuses, andThen}
+use Rattle.pgs_segment.specs.Header.{headerFields}
 use Rattle.pgs_views.specs.Kinds.{typeOf}
-use Rattle.pgs_segment.specs.OneSegment.{segmentType, usedBy, bodyAt}
-use Rattle.pgs_segment.specs.OdsBody.{flagOf, headSize}
+use Rattle.pgs_segment.specs.OneSegment.{segmentType, usedBy}
 use Rattle.pgs_stream.specs.Stream.{stepVerdict}
 use Rattle.pgs_segment.specs.declared.header.SegmentHeader.{SegmentHeader}
 use Rattle.pgs_views.specs.declared.«segment_type».SegmentType.{SegmentType}
-use Rattle.pgs_views.specs.declared.«segment_type».SegmentType.the-variants.{Pds, Ods, Pcs, Wds, End, Other}
 use Rattle.pgs_object.proofs.FragmentLaws.{none-left, left-same, left-next, bytes-within}
 use Rattle.pgs_set.proofs.SetLaws.{kind-read, size-read, inside-here, inside-on}
 use Rattle.pgs_set.proofs.WalkLaws.{within-here}

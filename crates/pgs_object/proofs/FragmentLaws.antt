@@ -1,14 +1,14 @@
 -- Reading the fragment of an ODS segment, and the fragments that are left in a set. Assumes nothing.
 use mathlib.Core.Path.{_≡_, refl, sym, ap, _∙_}
 use mathlib.Core.Bool.{Bool, true, false}
-use mathlib.Core.List.{List, [], _∷_, _++_}
-use Prim.Native.Nat.{ℕ, _+_, _-_, _≤_, _<_}
+use mathlib.Core.List.{List, [], _∷_}
+use Prim.Native.Nat.{ℕ, _+_, _-_, _≤_}
 use native.Mathlib.Omega.{arith}
 use borrow.Author.Tests.{leb-true}
 use lib.Dec.{leb}
 use lib.ListN.{length, take, drop, length-drop, length-take}
 use lib.Seq.{drop-drop, drop-at, length-take-le, take-add, take-take}
-use Rattle.pgs_base.specs.Outcome.{Verdict, accepted, refused, Outcome, gives, refuses, outcomeOf, andThen, unless, pick}
+use Rattle.pgs_base.specs.Outcome.{accepted, refused, Outcome, gives, refuses, outcomeOf, unless, pick}
 use Rattle.pgs_base.proofs.Outcomes.{gave-value, turned-down, first-accepts, second-holds, holds}
 use Rattle.pgs_segment.specs.Fields.{bodyVerdict}
 use Rattle.pgs_segment.specs.Header.{sizeOf}
@@ -29,7 +29,6 @@ use Rattle.pgs_object.specs.Objects.{Fragment, isOds, fragmentAt, fragme
 use Rattle.pgs_set.specs.Sets.{isEnd, throughEnd}
 use Rattle.pgs_object.specs.Tables.{headOf, fragmentsLeft}
 use Rattle.pgs_set.specs.Walks.{piecesAt}
-use Rattle.pgs_object.specs.declared.chain.FragmentHead.{FragmentHead}
 
 ods-only : (t : SegmentType) → isOds t ≡ true → t ≡ Ods
 ods-only Ods e = refl

@@ -5,10 +5,9 @@ use mathlib.Core.List.{List, [], _∷_, _++_, append-nil}
 use Prim.Native.Nat.{ℕ, _+_, _-_, _≤_, _<_}
 use native.Mathlib.Omega.{arith}
 use borrow.Author.Tests.{eq-eqb, ne-eqb}
-use lib.Dec.{eqb}
 use lib.ListN.{length, take, drop, getD, length-append, length-take, length-drop, drop-of-length-le}
 use lib.Seq.{length-take-le, take-length}
-use Rattle.pgs_base.specs.Outcome.{Verdict, accepted, refused, laid, pick}
+use Rattle.pgs_base.specs.Outcome.{Verdict, accepted, refused, laid}
 use Rattle.pgs_base.proofs.Front.{Front, begins, parted, filled}
 use Rattle.pgs_segment.specs.Header.{headerFields}
 use Rattle.pgs_views.specs.Kinds.{typeOf}
@@ -21,10 +20,9 @@ use Rattle.pgs_set.proofs.Choices.{pick-first, pick-second}
 use Rattle.pgs_object.proofs.FragmentLaws.{none-left, left-same, left-next, data-within, data-part}
 use Rattle.pgs_object.proofs.Lists.{drop-next}
 use Rattle.pgs_set.proofs.SetLaws.{kind-read, size-read}
-use Rattle.pgs_object.specs.Objects.{Fragment, isOds, fragmentAt, fragmentsFrom, dataPlace, idOf, withId, joined}
+use Rattle.pgs_object.specs.Objects.{Fragment, isOds, fragmentAt, fragmentsFrom, idOf, withId, joined}
 use Rattle.pgs_set.specs.Sets.{isEnd, throughEnd}
-use Rattle.pgs_object.specs.Tables.{headOf, copiedIn, joinedIn, rowData, rowBytes, joinedRows, Measured, fragmentsLeft}
-use Rattle.pgs_set.specs.Walks.{piecesAt}
+use Rattle.pgs_object.specs.Tables.{headOf, joinedIn, rowData, joinedRows, Measured, fragmentsLeft}
 use Rattle.pgs_object.specs.declared.chain.FragmentHead.{FragmentHead}
 
 -- a part of a front comes back with what was written, whatever its end is called

@@ -1,17 +1,17 @@
 -- The loops that test the chains of a set and list its objects, and what the rows say of the chains. Assumes nothing.
 use mathlib.Core.Path.{_≡_, refl, sym, ap, _∙_}
 use mathlib.Core.Bool.{Bool, true, false}
-use mathlib.Core.List.{List, [], _∷_, _++_, map}
+use mathlib.Core.List.{List, [], _∷_, map}
 use Prim.Native.Nat.{ℕ, _+_, _-_, _≤_, _<_}
 use native.Mathlib.Omega.{arith}
 use borrow.Author.Tests.{eq-eqb, ne-eqb, le-leb, lt-leb}
 use lib.Dec.{leb, eqb}
 use lib.ListN.{length, drop, set, getD, length-append, drop-of-length-le}
-use Rattle.pgs_base.specs.Outcome.{Verdict, accepted, refused, outcomeOf, andThen, unless, laid, pick}
+use Rattle.pgs_base.specs.Outcome.{Verdict, accepted, refused, andThen, unless, laid, pick}
 use Rattle.pgs_base.proofs.Front.{Front, begins, stored, filled}
 use Rattle.pgs_set.proofs.Choices.{pick-first, pick-second}
 use Rattle.pgs_object.proofs.Lists.{drop-next}
-use Rattle.pgs_object.specs.Objects.{Chain, ended, declaredLength, dataOf, dataPlace, chainVerdict, chainsVerdict, objectId, versionOf, widthOf, heightOf}
+use Rattle.pgs_object.specs.Objects.{Chain, ended, declaredLength, dataOf, dataPlace, chainsVerdict, objectId, versionOf, widthOf, heightOf}
 use Rattle.pgs_object.specs.Reassembly.{copied, copiedData, joinedData, objectRow, rowsFrom}
 use Rattle.pgs_object.specs.Tables.{chainRow, total, rowVerdict, rowsVerdict, copiedIn, joinedIn, placeIn, recordRow, recordsFrom}
 

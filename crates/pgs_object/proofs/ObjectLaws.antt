@@ -6,25 +6,25 @@ use Prim.Native.Nat.{ℕ, suc, _+_, _-_, _≤_, _<_}
 use native.Mathlib.Omega.{arith}
 use borrow.Author.Tests.{eq-eqb, le-leb, lt-leb}
 use lib.Dec.{ltb, eqb}
-use lib.ListN.{length, take, drop, getD, length-map}
+use lib.ListN.{length, take, drop, length-map}
 use lib.Seq.{length-take-le}
-use Rattle.pgs_base.specs.Outcome.{Verdict, accepted, refused, Outcome, gives, refuses, outcomeOf, andThen, unless, laid, Delivered, pick}
+use Rattle.pgs_base.specs.Outcome.{Verdict, accepted, refused, gives, refuses, outcomeOf, andThen, unless, laid, Delivered, pick}
 use Rattle.pgs_segment.specs.Header.{headerFields}
 use Rattle.pgs_segment.specs.OneSegment.{segmentType, usedBy}
 use Rattle.pgs_stream.specs.Stream.{Reading, stepVerdict}
 use Rattle.pgs_stream.proofs.StreamLaws.{read-stops}
 use Rattle.pgs_segment.specs.declared.header.SegmentHeader.{SegmentHeader}
 use Rattle.pgs_base.proofs.Outcomes.{gave, gave-value, turned-down, delivers-short, delivers-all}
-use Rattle.pgs_set.proofs.Choices.{pick-first, pick-second}
+use Rattle.pgs_set.proofs.Choices.{pick-first}
 use Rattle.pgs_object.proofs.FragmentLaws.{none-left, left-same, left-next}
 use Rattle.pgs_object.proofs.ListingLaws.{rows-verdict, rows-joined, rows-records}
 use Rattle.pgs_set.proofs.NumberLaws.{stands-here}
 use Rattle.pgs_set.proofs.SetLaws.{size-read, set-here}
 use Rattle.pgs_set.proofs.WalkLaws.{pieces-here, piece-length}
-use Rattle.pgs_object.specs.Objects.{Fragment, Chain, isOds, fragmentAt, fragmentsFrom, idOf, opensChain, withId, joined, chainsOf, objectId, dataOf, chainsVerdict, fragmentsVerdict, verdictAfter, fragmentsOf, objectsOf, objectsVerdictWithin}
+use Rattle.pgs_object.specs.Objects.{Fragment, Chain, isOds, fragmentAt, fragmentsFrom, idOf, opensChain, withId, joined, chainsOf, dataOf, chainsVerdict, fragmentsVerdict, verdictAfter, fragmentsOf, objectsOf, objectsVerdictWithin}
 use Rattle.pgs_object.specs.Reassembly.{copied, copiedData, joinedData, rowsFrom, objectRows, Reassembled}
 use Rattle.pgs_set.specs.Sets.{setNumber, setVerdict, isEnd, throughEnd, setCount, setsVerdict}
-use Rattle.pgs_object.specs.Tables.{chainRow, total, Holds, FoundChains, Rows, Gathered, rowsVerdict, joinedIn, recordsFrom, rowData, rowBytes, joinedRows, Measured, fragmentsLeft}
+use Rattle.pgs_object.specs.Tables.{chainRow, total, FoundChains, Rows, Gathered, rowsVerdict, joinedIn, recordsFrom, rowData, joinedRows, Measured, fragmentsLeft}
 use Rattle.pgs_set.specs.Walks.{piecesAt, SetStands}
 
 -- a chain's first fragment is the ODS at its place, and the fragments of its id from there on have its data

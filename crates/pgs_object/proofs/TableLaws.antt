@@ -2,18 +2,18 @@
 use mathlib.Core.Path.{_≡_, refl, sym, ap, _∙_}
 use mathlib.Core.Bool.{Bool, true, false}
 use mathlib.Core.List.{List, [], _∷_, _++_, map, append-nil}
-use Prim.Native.Nat.{ℕ, suc, _+_, _≤_, _<_}
+use Prim.Native.Nat.{ℕ, _+_, _≤_, _<_}
 use native.Mathlib.Omega.{arith}
 use native.Mathlib.Numerals.{add-one}
 use borrow.Author.Tests.{eq-eqb, ne-eqb, lt-ltb, le-ltb}
-use lib.Dec.{ltb, eqb}
+use lib.Dec.{eqb}
 use lib.ListN.{length, take, set, getD, length-set, length-map}
 use lib.Seq.{take-suc-set, take-set-lt, length-take-le, getD-take}
-use Rattle.pgs_base.specs.Outcome.{accepted, refused, Outcome, gives, refuses, pick, unless}
+use Rattle.pgs_base.specs.Outcome.{refused, gives, refuses, pick, unless}
 use Rattle.pgs_object.proofs.ChainLaws.{chain-of, extend, chains-extended, chains-added, extend-none, distinct-extended, distinct-added, state-found, state-unseen, grow, rows-grown, total-append, total-at, total-set}
 use Rattle.pgs_set.proofs.Choices.{pick-first, pick-second}
-use Rattle.pgs_object.specs.Objects.{Fragment, Chain, ChainState, unseen, continuing, complete, idOf, opensChain, closesChain, dataPlace, chainsOf, stateOf, fragmentVerdict, firstVerdict, nextVerdict, widthIn, heightIn}
-use Rattle.pgs_object.specs.Tables.{headOf, chainRow, rowWith, total, Distinct, Holds, Grown, Took}
+use Rattle.pgs_object.specs.Objects.{Fragment, Chain, ChainState, unseen, continuing, complete, idOf, closesChain, dataPlace, chainsOf, stateOf, fragmentVerdict, firstVerdict, nextVerdict, widthIn, heightIn}
+use Rattle.pgs_object.specs.Tables.{headOf, chainRow, rowWith, total, Holds, Grown, Took}
 use Rattle.pgs_object.specs.declared.chain.FragmentHead.{FragmentHead}
 
 -- the row of a new chain

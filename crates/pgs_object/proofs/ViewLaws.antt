@@ -7,21 +7,18 @@ use Prim.Native.Nat.{ℕ, zero, suc, _+_, _-_, _≤_, _<_}
 use native.Mathlib.Omega.{arith}
 use borrow.Author.Tests.{le-leb, lt-leb, eq-eqb, ne-eqb}
 use lib.Dec.{leb, eqb}
-use lib.ListN.{length, take, drop, getD, length-append, length-drop}
+use lib.ListN.{length, take, drop, getD, length-append}
 use lib.Seq.{take-at, drop-append-seam, take-append-seam}
-use Rattle.pgs_base.specs.Outcome.{Verdict, accepted, refused, Outcome, gives, refuses, outcomeOf, laid, pick}
+use Rattle.pgs_base.specs.Outcome.{Verdict, accepted, gives, laid, pick}
 use Rattle.pgs_base.proofs.Outcomes.{gave, gave-value}
-use Rattle.pgs_segment.specs.OneSegment.{segmentType, usedBy}
-use Rattle.pgs_stream.specs.Stream.{Reading, stepVerdict}
+use Rattle.pgs_segment.specs.OneSegment.{segmentType}
 use Rattle.pgs_set.proofs.Choices.{pick-first, pick-second}
 use Rattle.pgs_object.proofs.FragmentLaws.{data-within, data-part}
 use Rattle.pgs_object.proofs.ObjectLaws.{Begins, AllBegin, all-begin, piece-here}
-use Rattle.pgs_set.proofs.WalkLaws.{pieces-here, piece-length}
 use Rattle.pgs_object.specs.Objects.{Fragment, Chain, fragmentAt, fragmentsFrom, fragmentsOf, chainsOf, joined, dataOf, dataPlace, objectsOf}
-use Rattle.pgs_set.specs.Sets.{noSet, isPcs, throughEnd, setsFrom, setsOf, DisplaySet}
-use Rattle.pgs_object.specs.Reassembly.{anyMore, copied, copiedData, joinedData, objectRow, rowsFrom, objectRows, reassembly, Reassembled, partOf, shownBy}
+use Rattle.pgs_set.specs.Sets.{noSet, isPcs, throughEnd, setsFrom, setsOf}
+use Rattle.pgs_object.specs.Reassembly.{anyMore, copied, copiedData, joinedData, rowsFrom, objectRows, reassembly, Reassembled, partOf, shownBy}
 use Rattle.pgs_set.specs.Walks.{piecesAt}
-use Rattle.pgs_object.specs.Tables.{fragmentsLeft}
 
 -- how a part is taken
 

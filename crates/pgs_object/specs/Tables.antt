@@ -2,13 +2,12 @@
 -- those of public functions cite `Objects` and `Reassembly`.
 use Prim.Native.Nat.{ℕ, suc, _+_, _-_, _≤_}
 use mathlib.Core.Path.{_≡_}
-use mathlib.Core.Bool.{Bool, true, false}
 use mathlib.Core.List.{List, [], _∷_, _++_, map}
 use lib.Dec.{leb, eqb}
 use lib.ListN.{length, take, getD}
 use Rattle.pgs_base.specs.Outcome.{Verdict, accepted, refused, Outcome, gives, refuses, andThen, unless, pick}
 use Rattle.pgs_base.specs.Refusals.{numberOf}
-use Rattle.pgs_object.specs.Objects.{Fragment, fragmentsFrom, Chain, ChainState, unseen, idOf, opensChain, closesChain, dataPlace, widthIn, heightIn, objectId, versionOf, widthOf, heightOf, declaredLength, ended, dataOf, stateOf, chainsOf, fragmentVerdict, verdictAfter, joined, withId, chainsVerdict}
+use Rattle.pgs_object.specs.Objects.{Fragment, fragmentsFrom, Chain, unseen, idOf, opensChain, closesChain, dataPlace, widthIn, heightIn, objectId, versionOf, widthOf, heightOf, declaredLength, ended, dataOf, stateOf, chainsOf, fragmentVerdict, verdictAfter, joined, withId}
 use Rattle.pgs_object.specs.Reassembly.{copied, joinedData}
 use Rattle.pgs_set.specs.Sets.{throughEnd}
 use Rattle.pgs_set.specs.Walks.{piecesAt}

@@ -1,9 +1,9 @@
 -- The ids of palette entries are bytes, so that a table of 256 colours holds them all. Assumes nothing.
-use mathlib.Core.Path.{_≡_, refl, sym, ap, _∙_}
+use mathlib.Core.Path.{_≡_, refl, _∙_}
 use mathlib.Core.Bool.{Bool, true, false}
-use mathlib.Core.List.{List, [], _∷_, _++_, map}
-use mathlib.Core.Option.{Option, none, some}
-use Prim.Native.Nat.{ℕ, zero, suc, _+_, _≤_, _<_}
+use mathlib.Core.List.{List, [], _∷_, map}
+use mathlib.Core.Option.{none, some}
+use Prim.Native.Nat.{ℕ, zero, suc, _≤_, _<_}
 use native.Mathlib.Omega.{arith}
 use borrow.Author.Tests.{ne-eqb}
 use lib.Dec.{eqb}
@@ -11,7 +11,7 @@ use lib.ListN.{length, take, drop}
 use Rattle.pgs_base.specs.Bytes.{big, num, Bytes}
 use Rattle.pgs_base.specs.Outcome.{isAccepted, pick}
 use Rattle.pgs_base.proofs.Digits.{bytes-take, bytes-drop}
-use Rattle.pgs_color.specs.Palette.{Entry, entryOf, applying, lookup, orElse}
+use Rattle.pgs_color.specs.Palette.{entryOf, lookup, orElse}
 use Rattle.pgs_color.proofs.Laying.{lookup-append}
 use Rattle.pgs_segment.specs.Header.{sizeOf}
 use Rattle.pgs_segment.specs.OneSegment.{segmentType, usedBy, bodyAt}

@@ -7,10 +7,10 @@ use native.Mathlib.Omega.{arith}
 use borrow.Author.Tests.{ltb-true}
 use lib.Dec.{ltb}
 use lib.ListN.{length, getD, length-append}
-use Rattle.pgs_base.specs.Outcome.{Verdict, accepted, andThen, unless, pick}
+use Rattle.pgs_base.specs.Outcome.{accepted, pick}
 use Rattle.pgs_base.proofs.Outcomes.{first-accepts, second-holds, holds}
 use Rattle.pgs_bitmap.specs.Bitmap.{bitmapOf}
-use Rattle.pgs_object.specs.Objects.{Fragment, Chain, ChainState, unseen, continuing, complete, idOf, opensChain, withId, chainsOf, objectId, widthOf, heightOf, dataOf, dataPlace, stateOf, firstVerdict, nextVerdict, fragmentVerdict, verdictAfter, chainsVerdict, fragmentsVerdict}
+use Rattle.pgs_object.specs.Objects.{Fragment, Chain, ChainState, unseen, continuing, complete, idOf, opensChain, withId, chainsOf, widthOf, heightOf, dataOf, dataPlace, stateOf, firstVerdict, nextVerdict, fragmentVerdict, verdictAfter, chainsVerdict, fragmentsVerdict}
 use Rattle.pgs_object.specs.Reassembly.{copied, copiedData, joinedData, objectRow, rowsFrom, shownBy}
 use Rattle.pgs_render.specs.Images.{areaOf, bitmapsOf}
 use Rattle.pgs_render.specs.Rows.{rowsArea, rowsBitmaps, Held}

@@ -1,18 +1,17 @@
 -- Finding a set's objects and its PCS, before it is painted. Assumes nothing.
-use mathlib.Core.Path.{_≡_, refl, sym, ap, subst, _∙_}
-use mathlib.Core.Bool.{Bool, true, false}
+use mathlib.Core.Path.{_≡_, refl, sym, ap, _∙_}
 use mathlib.Core.List.{List, [], _∷_, _++_, map}
-use Prim.Native.Nat.{ℕ, suc, _+_, _-_, _≤_, _<_}
+use Prim.Native.Nat.{ℕ, suc, _+_, _-_, _≤_}
 use native.Mathlib.Omega.{arith}
 use borrow.Author.Tests.{le-leb}
 use lib.Dec.{ltb}
 use lib.ListN.{length, take, drop, length-append, length-map}
 use lib.Seq.{take-at}
 use Rattle.pgs_base.specs.Bytes.{Bytes}
-use Rattle.pgs_base.specs.Outcome.{Verdict, accepted, refused, Outcome, gives, refuses, outcomeOf, andThen, unless, needing, laid, delivery, Delivered}
+use Rattle.pgs_base.specs.Outcome.{Verdict, accepted, refused, Outcome, gives, refuses, outcomeOf, andThen, unless, needing, laid, Delivered}
 use Rattle.pgs_views.specs.declared.«segment_type».SegmentType.{SegmentType}
 use Rattle.pgs_views.specs.declared.«segment_type».SegmentType.the-variants.{Pds, Ods, Pcs, Wds, End, Other}
-use Rattle.pgs_base.proofs.Outcomes.{gave, gave-value, turned-down, first-accepts, second-holds, delivered, delivered-value, delivered-refusal}
+use Rattle.pgs_base.proofs.Outcomes.{gave-value, turned-down, first-accepts, second-holds, delivered, delivered-value, delivered-refusal}
 use Rattle.pgs_color.specs.Bytes.{rgbOf}
 use Rattle.pgs_segment.specs.Fields.{bodyVerdict}
 use Rattle.pgs_segment.specs.Header.{ptsOf, headerFields, headerOf}
@@ -27,13 +26,13 @@ use Rattle.pgs_segment.proofs.SegmentLaws.{accepted-body}
 use Rattle.pgs_object.specs.Objects.{Chain, objectsOf, objectsVerdict, objectLimit, fragmentsOf, fragmentsVerdict}
 use Rattle.pgs_set.specs.Sets.{setNumber, setVerdict, DisplaySet, kindVerdict, throughEnd, setsVerdict, setCount, setRow}
 use Rattle.pgs_object.specs.Reassembly.{copiedData, rowsFrom, objectRows}
-use Rattle.pgs_set.specs.Walks.{SetStands, FoundSet, piecesAt, setAt}
+use Rattle.pgs_set.specs.Walks.{SetStands, FoundSet, piecesAt}
 use Rattle.pgs_set.specs.declared.grouping.Grouping.the-variants.{Outside}
 use Rattle.pgs_object.proofs.FragmentLaws.{lent-body}
 use Rattle.pgs_set.proofs.NumberLaws.{stands-here, stands-open}
 use Rattle.pgs_set.proofs.SetLaws.{size-read, set-here, read-within}
 use Rattle.pgs_set.proofs.WalkLaws.{kind-accepted}
-use Rattle.pgs_render.specs.Rendering.{compositionOf, placementsIn, roomVerdict, answerOf, Rendered}
+use Rattle.pgs_render.specs.Rendering.{roomVerdict, answerOf, Rendered}
 use Rattle.pgs_render.specs.Steps.{Listed, Opened, Composed, Placed}
 use Rattle.pgs_render.proofs.EntryLaws.{num-one}
 use Rattle.pgs_render.proofs.ObjectLaws.{few-objects}

@@ -14,7 +14,6 @@ use Rattle.pgs_plane.specs.Pictures.{painted, paintedAll}
 use Rattle.pgs_plane.specs.Placing.{indexShown, tableColor}
 use Rattle.pgs_plane.specs.declared.plane.Painted.{Painted}
 use Rattle.pgs_plane.proofs.CallLaws.{all-fit}
-use Rattle.pgs_segment.specs.declared.pcs.CompositionObjectCrop.{CompositionObjectCrop}
 use Rattle.pgs_segment.specs.declared.pcs.Cropping.{Cropping}
 use Rattle.pgs_segment.specs.declared.pcs.Cropping.the-variants.{Uncropped, Cropped}
 use Rattle.pgs_segment.specs.declared.pcs.CompositionObject.{CompositionObject}

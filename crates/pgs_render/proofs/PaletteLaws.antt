@@ -10,7 +10,7 @@ use lib.ListN.{length, take, drop, getD, length-drop}
 use lib.Seq.{drop-drop, getD-drop}
 use Rattle.pgs_base.specs.Bytes.{num}
 use Rattle.pgs_views.specs.Kinds.{typeOf}
-use Rattle.pgs_base.specs.Outcome.{Verdict, accepted, refused, Outcome, gives, refuses, outcomeOf, pick}
+use Rattle.pgs_base.specs.Outcome.{Verdict, accepted, refused, gives, refuses, pick}
 use Rattle.pgs_views.specs.declared.«segment_type».SegmentType.{SegmentType}
 use Rattle.pgs_views.specs.declared.«segment_type».SegmentType.the-variants.{Pds, Ods, Pcs, Wds, End, Other}
 use Rattle.pgs_base.proofs.Bytes.{num-byte}

@@ -1,23 +1,23 @@
 -- Painting a display set, step by step. Assumes nothing.
-use mathlib.Core.Path.{_≡_, refl, sym, ap, subst, _∙_}
+use mathlib.Core.Path.{_≡_, refl, sym, ap, _∙_}
 use mathlib.Core.Bool.{Bool, true, false}
 use mathlib.Core.List.{List, [], _∷_, _++_, map, append-nil, append-assoc}
 use mathlib.Core.Option.{Option, none, some}
 use Prim.Native.Nat.{ℕ, _+_, _*_, _≤_, _<_}
 use native.Mathlib.Omega.{arith}
-use borrow.Author.Tests.{le-leb, lt-leb, leb-true, leb-false}
+use borrow.Author.Tests.{le-leb, lt-leb, leb-true}
 use lib.Dec.{leb}
 use lib.ListN.{length, take, drop, length-append}
 use lib.Seq.{take-at, drop-at, drop-drop}
 use Rattle.pgs_base.specs.Bytes.{Bytes}
-use Rattle.pgs_base.specs.Outcome.{Verdict, accepted, refused, Outcome, outcomeOf, andThen, unless, needing, laid, delivery, Delivered, pick}
+use Rattle.pgs_base.specs.Outcome.{Verdict, accepted, refused, Outcome, outcomeOf, andThen, unless, needing, laid, Delivered, pick}
 use Rattle.pgs_base.proofs.Outcomes.{first-accepts, second-holds}
 use Rattle.pgs_bitmap.specs.Bitmap.{readingOf, bitmapOf}
 use Rattle.pgs_bitmap.proofs.BitmapArea.{bitmap-area}
 use Rattle.pgs_color.specs.Bytes.{rgbOf}
 use Rattle.pgs_color.specs.Table as table
 use Rattle.pgs_color.specs.Palette.{Conversion, Entry}
-use Rattle.pgs_plane.specs.Calls.{Clears, planeFits}
+use Rattle.pgs_plane.specs.Calls.{Clears}
 use Rattle.pgs_plane.specs.Pictures.{Picture, planeOf, colorOver, transparent, indexOf, coveringAt, planeShown, cleared, paintedAll}
 use Rattle.pgs_plane.specs.Placing.{Image, tableColor}
 use Rattle.pgs_plane.specs.Strips.{strip}
@@ -32,9 +32,9 @@ use Rattle.pgs_set.specs.Sets.{setNumber, DisplaySet, throughEnd}
 use Rattle.pgs_object.specs.Reassembly.{joinedData, objectRows, shownBy}
 use Rattle.pgs_set.specs.Walks.{piecesAt}
 use Rattle.pgs_object.proofs.ViewLaws.{shown-data}
-use Rattle.pgs_render.specs.Images.{lookIn, bitmapsOf, areaOf, bitmapsVerdict, placementsVerdict}
+use Rattle.pgs_render.specs.Images.{lookIn, bitmapsOf, areaOf, bitmapsVerdict}
 use Rattle.pgs_render.specs.Palettes.{entriesAmong, colorShown}
-use Rattle.pgs_render.specs.Rendering.{compositionOf, placementsIn, colorsIn, pictureOf, roomVerdict, earlyVerdict, contentVerdict, renderVerdict, leftBy, answerOf, Rendered}
+use Rattle.pgs_render.specs.Rendering.{compositionOf, placementsIn, colorsIn, pictureOf, earlyVerdict, contentVerdict, leftBy, answerOf, Rendered}
 use Rattle.pgs_render.specs.Rows.{Narrow, rowsJoined, rowsNeed, rowsArea, rowsReading, rowsBitmaps, allPresent, lookAt, placementIn, AllStorable}
 use Rattle.pgs_render.specs.Steps.{Listed, Opened, Placed, JoinedAndRead, Ready, Showing}
 use Rattle.pgs_render.proofs.ColorLaws.{table-shown}

@@ -1,13 +1,13 @@
 -- The tests of the objects and the placements of a set, row by row, and what the rows say of the objects. Assumes nothing.
 use mathlib.Core.Path.{_≡_, refl, sym, ap, _∙_}
 use mathlib.Core.Bool.{Bool, true, false}
-use mathlib.Core.List.{List, [], _∷_, _++_, map}
-use Prim.Native.Nat.{ℕ, suc, _+_, _-_, _*_, _≤_, _<_}
+use mathlib.Core.List.{List, [], _∷_, map}
+use Prim.Native.Nat.{ℕ, _+_, _-_, _≤_, _<_}
 use native.Mathlib.Omega.{arith}
 use borrow.Author.Tests.{eq-eqb, ne-eqb, le-leb, lt-leb}
 use lib.Dec.{leb, eqb}
 use lib.ListN.{length, drop, getD, length-append, drop-of-length-le}
-use Rattle.pgs_base.specs.Outcome.{Verdict, accepted, refused, andThen, unless, isAccepted, pick}
+use Rattle.pgs_base.specs.Outcome.{Verdict, accepted, refused, andThen, unless, pick}
 use Rattle.pgs_base.proofs.Decisions.{leb-same}
 use Rattle.pgs_bitmap.specs.Bitmap.{readingOf}
 use Rattle.pgs_segment.specs.PcsBody.{placementRow}

@@ -1,14 +1,14 @@
 -- A bitmap stored in the scratch, from data in the stream or before it in the scratch. Assumes nothing.
 use mathlib.Core.Path.{_≡_, refl, sym, ap, _∙_}
 use mathlib.Core.Bool.{Bool, true, false, _&&_}
-use mathlib.Core.List.{List, [], _∷_, _++_, append-nil, append-assoc}
-use Prim.Native.Nat.{ℕ, _+_, _-_, _*_, _≤_, _<_}
+use mathlib.Core.List.{List, [], _++_, append-assoc}
+use Prim.Native.Nat.{ℕ, _+_, _-_, _≤_, _<_}
 use native.Mathlib.Omega.{arith}
 use borrow.Author.Tests.{eq-eqb, eqb-true, le-leb}
-use lib.Dec.{leb, eqb}
+use lib.Dec.{eqb}
 use lib.ListN.{length, take, drop, getD, length-append, length-drop, drop-of-length-le, take-append-drop}
 use lib.Seq.{drop-drop, drop-at, take-at, take-all, take-take, take-append-le, length-take-le}
-use Rattle.pgs_base.specs.Outcome.{Verdict, accepted, andThen, unless, laid, pick}
+use Rattle.pgs_base.specs.Outcome.{accepted, andThen, pick}
 use Rattle.pgs_bitmap.specs.Bitmap.{readingOf, bitmapOf}
 use Rattle.pgs_bitmap.specs.Decoding.{paddedTo}
 use Rattle.pgs_bitmap.proofs.BitmapArea.{bitmap-area}

@@ -8,7 +8,6 @@ use lib.ListN.{length, getD, take, drop}
 use Rattle.pgs_base.specs.Outcome.{Verdict, accepted, andThen, pick}
 use Rattle.pgs_bitmap.specs.Bitmap.{readingOf, bitmapOf}
 use Rattle.pgs_plane.specs.Placing.{Image, imageOf}
-use Rattle.pgs_segment.specs.declared.pcs.CompositionObjectCrop.{CompositionObjectCrop}
 use Rattle.pgs_segment.specs.declared.pcs.Cropping.{Cropping}
 use Rattle.pgs_segment.specs.declared.pcs.Cropping.the-variants.{Uncropped, Cropped}
 use Rattle.pgs_segment.specs.declared.pcs.CompositionObject.{CompositionObject}

@@ -1,5 +1,5 @@
 -- How testing and reading one segment end, over its bytes. Assumes nothing.
-use mathlib.Core.Path.{_≡_, refl, sym, ap, _∙_}
+use mathlib.Core.Path.{_≡_, ap, _∙_}
 use mathlib.Core.Bool.{true}
 use mathlib.Core.List.{List}
 use Prim.Native.Nat.{ℕ, _+_, _-_, _≤_, _<_}
@@ -7,12 +7,11 @@ use native.Mathlib.Omega.{arith}
 use borrow.Author.Tests.{leb-true, le-leb, lt-leb}
 use lib.Dec.{leb}
 use lib.ListN.{length, take, drop}
-use Rattle.pgs_base.specs.Outcome.{Verdict, Outcome, refuses, accepted, refused, outcomeOf, andThen, unless}
+use Rattle.pgs_base.specs.Outcome.{Verdict, Outcome, accepted, refused, outcomeOf, andThen, unless}
 use Rattle.pgs_base.proofs.Outcomes.{first-holds, second-holds, first-accepts, holds}
 use Rattle.pgs_segment.specs.Fields.{bodyVerdict, bodyList, bodyOf, numbersOf}
-use Rattle.pgs_segment.specs.Header.{kindOf, sizeOf, marked, headerVerdict, headerFields}
-use Rattle.pgs_views.specs.Kinds.{typeOf}
-use Rattle.pgs_segment.specs.OneSegment.{segmentType, usedBy, bodyAt, segmentVerdict, frameOf}
+use Rattle.pgs_segment.specs.Header.{sizeOf, marked, headerVerdict}
+use Rattle.pgs_segment.specs.OneSegment.{segmentType, usedBy, bodyAt, segmentVerdict}
 use Rattle.pgs_views.specs.declared.«segment_type».SegmentType.{SegmentType}
 use Rattle.pgs_segment.specs.declared.segment.BodyList.{BodyList}
 use Rattle.pgs_segment.specs.declared.segment.SegmentBody.{SegmentBody}

@@ -1,7 +1,7 @@
 -- The head of a segment. 01, module 2: "`SegmentHeader::parse`: mark 50 47, PTS 4 bytes, DTS 4, kind 1, body size 2."
 -- From US 2009/0185789, whose text is not at hand: 01 gives what is needed of it.
 use Prim.Native.Nat.{ℕ}
-use mathlib.Core.Bool.{Bool, true, false}
+use mathlib.Core.Bool.{Bool, false}
 use mathlib.Core.List.{List}
 use lib.ListN.{length, getD}
 use lib.Dec.{leb, eqb}

@@ -2,10 +2,9 @@
 -- the rest is data. Flag 80 is first, 40 last, C0 both; any other is a middle fragment."
 -- From US 2009/0185789, whose text is not at hand: 01 gives what is needed of it.
 use Prim.Native.Nat.{ℕ, _-_}
-use mathlib.Core.Bool.{Bool, true, false}
 use mathlib.Core.List.{List}
 use lib.ListN.{length, drop}
-use lib.Dec.{leb, eqb}
+use lib.Dec.{leb}
 use Rattle.pgs_base.specs.Bytes.{num}
 use Rattle.pgs_views.specs.Fragments.{fragmentOf, isFirst}
 use Rattle.pgs_base.specs.Outcome.{Verdict, Outcome, gives, refuses, andThen, unless, pick}

@@ -8,9 +8,7 @@ use Rattle.pgs_base.specs.Refusals.{numberOf}
 use Rattle.pgs_segment.specs.Fields.{SegmentFields, bodyVerdict, bodyOf, bodyList, numbersOf}
 use Rattle.pgs_segment.specs.Header.{ptsOf, dtsOf, kindOf, sizeOf, headerVerdict, headerFields}
 use Rattle.pgs_views.specs.Kinds.{typeOf}
-use Rattle.pgs_segment.specs.declared.header.SegmentHeader.{SegmentHeader}
 use Rattle.pgs_views.specs.declared.«segment_type».SegmentType.{SegmentType}
-use Rattle.pgs_segment.specs.declared.segment.BodyList.{BodyList}
 use Rattle.pgs_segment.specs.declared.segment.Frame.{Frame}
 use Rattle.pgs_segment.specs.declared.segment.FrameAnswer.{FrameAnswer}
 use Rattle.pgs_segment.specs.declared.segment.FrameAnswer.the-variants as frames

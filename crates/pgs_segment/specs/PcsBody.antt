@@ -3,8 +3,8 @@
 -- window id 1, crop flag 1, x 2, y 2; only if the flag is exactly 40, then crop x, y, width, height, 2 each."
 -- From US 2009/0185789, whose text is not at hand: 01 gives what is needed of it.
 use Prim.Native.Nat.{ℕ}
-use mathlib.Core.Bool.{Bool, true, false}
-use mathlib.Core.List.{List, [], _∷_, _++_, map}
+use mathlib.Core.Bool.{Bool}
+use mathlib.Core.List.{List, [], _∷_, map}
 use lib.ListN.{length, drop}
 use lib.Dec.{leb, eqb}
 use Rattle.pgs_base.specs.Bytes.{num}
@@ -12,7 +12,6 @@ use Rattle.pgs_base.specs.Outcome.{Verdict, Outcome, gives, refuses, andThen, u
 use Rattle.pgs_base.specs.Refusals.{numberOf}
 use Rattle.pgs_segment.specs.Records.{records, recordsFit, recordsSize}
 use Rattle.pgs_segment.specs.declared.segment.BodyList.{BodyList}
-use Rattle.pgs_segment.specs.declared.pcs.CompositionObjectCrop.{CompositionObjectCrop}
 use Rattle.pgs_segment.specs.declared.pcs.Cropping.{Cropping}
 use Rattle.pgs_segment.specs.declared.pcs.Cropping.the-variants.{Uncropped, Cropped}
 use Rattle.pgs_segment.specs.declared.pcs.CompositionObject.{CompositionObject}

@@ -1,5 +1,5 @@
 -- A choice by a test whose answer is known. Assumes nothing.
-use mathlib.Core.Path.{_≡_, refl, ap}
+use mathlib.Core.Path.{_≡_, ap}
 use mathlib.Core.Bool.{Bool, true, false}
 use Rattle.pgs_base.specs.Outcome.{pick}
 

@@ -1,12 +1,12 @@
 -- How grouping one more segment ends, by its kind and by the state. Assumes nothing.
-use mathlib.Core.Path.{_≡_, refl, sym, ap, _∙_}
+use mathlib.Core.Path.{_≡_, sym, ap, _∙_}
 use mathlib.Core.Bool.{Bool, true, false}
 use Rattle.pgs_base.specs.Outcome.{Outcome, gives, refuses, outcomeOf}
 use Rattle.pgs_views.specs.declared.«segment_type».SegmentType.{SegmentType}
 use Rattle.pgs_views.specs.declared.«segment_type».SegmentType.the-variants.{Wds}
 use Rattle.pgs_set.specs.Sets.{kindVerdict, stateAfter}
 use Rattle.pgs_set.specs.declared.grouping.Grouping.{Grouping}
-use Rattle.pgs_set.specs.declared.grouping.Grouping.the-variants.{Outside, Inside}
+use Rattle.pgs_set.specs.declared.grouping.Grouping.the-variants.{Inside}
 
 -- what is answered of the kind that the value is
 pub of-kind : (g : Grouping) {k t : SegmentType} {o : Outcome Grouping} → k ≡ t → o ≡ outcomeOf (kindVerdict g t) (stateAfter g t)

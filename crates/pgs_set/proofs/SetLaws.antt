@@ -1,19 +1,18 @@
 -- The loops that count, pass, find and store the sets of a stream. Assumes nothing.
 use mathlib.Core.Path.{_≡_, refl, sym, ap, _∙_}
 use mathlib.Core.Bool.{Bool, true, false}
-use mathlib.Core.List.{List, [], _∷_, _++_, map}
-use Prim.Native.Nat.{ℕ, zero, suc, _+_, _-_, _≤_, _<_}
+use mathlib.Core.List.{List, [], _∷_, map}
+use Prim.Native.Nat.{ℕ, _+_, _-_, _≤_, _<_}
 use native.Mathlib.Omega.{arith}
-use native.Mathlib.Numerals.{add-one}
-use native.Mathlib.Nat.{add-zero, add-assoc}
+use native.Mathlib.Nat.{add-zero}
 use borrow.Author.Tests.{leb-true, leb-false}
 use lib.Dec.{leb}
 use lib.ListN.{length, take, drop, set, getD, length-drop, length-map}
 use lib.Seq.{drop-drop, getD-drop}
-use Rattle.pgs_base.specs.Outcome.{Verdict, accepted, refused, Outcome, gives, refuses, outcomeOf, andThen, pick, laid}
+use Rattle.pgs_base.specs.Outcome.{Verdict, accepted, refused, gives, refuses, outcomeOf, andThen, pick, laid}
 use Rattle.pgs_base.proofs.Front.{Front, begins, stored, filled}
 use Rattle.pgs_base.proofs.Outcomes.{gave, gave-value, turned-down, first-accepts, second-holds}
-use Rattle.pgs_segment.specs.Header.{ptsOf, sizeOf, headerFields}
+use Rattle.pgs_segment.specs.Header.{ptsOf, headerFields}
 use Rattle.pgs_views.specs.Kinds.{typeOf}
 use Rattle.pgs_segment.specs.OneSegment.{segmentType, usedBy}
 use Rattle.pgs_stream.specs.Stream.{readOf, stepVerdict, streamVerdict}

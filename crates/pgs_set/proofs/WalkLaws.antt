@@ -1,19 +1,18 @@
 -- Walking over the segments of an accepted stream, one after another. Assumes nothing.
 use mathlib.Core.Path.{_≡_, refl, sym, ap, _∙_}
-use mathlib.Core.Bool.{Bool, true, false}
-use mathlib.Core.List.{List, [], _∷_, _++_}
-use Prim.Native.Nat.{ℕ, zero, suc, _+_, _-_, _≤_, _<_}
+use mathlib.Core.List.{List, [], _∷_}
+use Prim.Native.Nat.{ℕ, _+_, _-_, _≤_, _<_}
 use native.Mathlib.Omega.{arith}
 use lib.ListN.{length, take, drop, length-drop}
-use lib.Seq.{drop-drop, length-take-le, drop-length}
+use lib.Seq.{drop-drop, length-take-le}
 use Rattle.pgs_base.specs.Bytes.{num}
-use Rattle.pgs_base.specs.Outcome.{Verdict, accepted, refused, andThen, pick}
+use Rattle.pgs_base.specs.Outcome.{Verdict, accepted, refused, andThen}
 use Rattle.pgs_base.proofs.Bytes.{num-take}
 use Rattle.pgs_base.proofs.Outcomes.{first-accepts, second-holds}
-use Rattle.pgs_segment.specs.Header.{headerVerdict, kindOf, ptsOf}
+use Rattle.pgs_segment.specs.Header.{headerVerdict}
 use Rattle.pgs_views.specs.Kinds.{typeOf}
 use Rattle.pgs_segment.specs.OneSegment.{segmentType, segmentVerdict, usedBy}
-use Rattle.pgs_stream.specs.Stream.{Reading, stepVerdict, before, readOf, stoppedBy, streamVerdict}
+use Rattle.pgs_stream.specs.Stream.{Reading, stepVerdict, readOf, stoppedBy, streamVerdict}
 use Rattle.pgs_segment.proofs.SegmentLaws.{accepted-head, has-header}
 use Rattle.pgs_stream.proofs.StreamLaws.{step-within, read-on, read-stops, stopped-at}
 use Rattle.pgs_views.specs.declared.«segment_type».SegmentType.{SegmentType}

@@ -3,27 +3,27 @@
 use mathlib.Core.Path.{_≡_, refl, sym, ap, _∙_}
 use mathlib.Core.Bool.{Bool, true, false}
 use mathlib.Core.List.{List, [], _∷_, _++_, map, append-assoc}
-use Prim.Native.Nat.{ℕ, zero, suc, _+_, _-_, _≤_, _<_}
+use Prim.Native.Nat.{ℕ, zero, suc, _+_, _-_, _≤_}
 use native.Mathlib.Omega.{arith}
 use lib.ListN.{length, take, drop, getD, length-drop, length-append, take-append-drop}
 use lib.Seq.{drop-drop, length-take-le, getD-take, take-length}
 use borrow.Author.Tests.{le-leb}
 use Rattle.pgs_base.specs.Bytes.{num}
 use Rattle.pgs_views.specs.Kinds.{typeOf, rawOf}
-use Rattle.pgs_base.specs.Outcome.{Verdict, accepted, refused, isAccepted}
+use Rattle.pgs_base.specs.Outcome.{accepted, isAccepted}
 use Rattle.pgs_base.proofs.Bytes.{num-take}
 use Rattle.pgs_base.proofs.Lists.{to-end, drop-take}
 use Rattle.pgs_base.proofs.Outcomes.{is-accepted, first-accepts}
 use Rattle.pgs_views.proofs.Views.{raw-type}
-use Rattle.pgs_segment.specs.Fields.{BodyFields, SegmentFields, kindByte, bodyVerdict, bodyOf, bodyList, partOf}
-use Rattle.pgs_segment.specs.Header.{kindOf, sizeOf, marked, headerVerdict}
+use Rattle.pgs_segment.specs.Fields.{kindByte, bodyVerdict, bodyOf, bodyList, partOf}
+use Rattle.pgs_segment.specs.Header.{sizeOf, marked}
 use Rattle.pgs_segment.specs.OdsBody.{odsData, odsList, headSize, flagOf}
 use Rattle.pgs_segment.specs.OneSegment.{segmentType, usedBy, bodyAt, segmentVerdict, fieldsOf}
-use Rattle.pgs_stream.specs.Stream.{Reading, stepVerdict, before, readFirst, readOf, stoppedBy, stopPlace, streamVerdict, joined, segmentRow, rowsFrom, segmentRows}
+use Rattle.pgs_stream.specs.Stream.{stepVerdict, before, readFirst, readOf, stoppedBy, stopPlace, streamVerdict, joined, segmentRow, rowsFrom, segmentRows}
 use Rattle.pgs_views.specs.declared.«segment_type».SegmentType.{SegmentType}
 use Rattle.pgs_views.specs.declared.«segment_type».SegmentType.the-variants as kinds
 use Rattle.pgs_segment.proofs.SegmentLaws.{has-header, accepted-head, accepted-size, accepted-body, accepted-mark}
-use Rattle.pgs_stream.proofs.StreamLaws.{step-within, step-accepted, step-refused}
+use Rattle.pgs_stream.proofs.StreamLaws.{step-within}
 
 -- the part that an answer names is the data
 pub ods-part : (b : List ℕ) → partOf (odsList b) b ≡ odsData b

@@ -1,20 +1,20 @@
 -- Reading a stream without fuel, and the loops that count and store its segments. Assumes nothing.
 use mathlib.Core.Path.{_≡_, refl, sym, ap, _∙_}
 use mathlib.Core.Bool.{Bool, true, false}
-use mathlib.Core.List.{List, [], _∷_, _++_}
+use mathlib.Core.List.{List, [], _∷_}
 use Prim.Native.Nat.{ℕ, zero, suc, _+_, _-_, _≤_, _<_}
 use native.Mathlib.Omega.{arith}
 use borrow.Author.Tests.{lt-ltb}
 use lib.ListN.{length, take, drop, set, length-drop}
 use lib.Seq.{drop-drop, length-take-le, drop-length}
 use Rattle.pgs_base.specs.Bytes.{num}
-use Rattle.pgs_base.specs.Outcome.{Verdict, accepted, refused, pick, isAccepted, unless, laid}
+use Rattle.pgs_base.specs.Outcome.{Verdict, accepted, refused, isAccepted, laid}
 use Rattle.pgs_base.proofs.Bytes.{num-take}
 use Rattle.pgs_base.proofs.Front.{Front, begins, stored, filled}
-use Rattle.pgs_base.proofs.Outcomes.{is-accepted, first-accepts, second-holds}
+use Rattle.pgs_base.proofs.Outcomes.{is-accepted, first-accepts}
 use Rattle.pgs_segment.specs.OneSegment.{segmentVerdict, usedBy}
 use Rattle.pgs_stream.specs.Stream.{Reading, stepVerdict, before, readFirst, readOf, stoppedBy, streamVerdict, segmentCount, segmentRow, rowsFrom, segmentRows}
-use Rattle.pgs_segment.proofs.SegmentLaws.{has-header, accepted-head, accepted-size}
+use Rattle.pgs_segment.proofs.SegmentLaws.{accepted-size}
 
 -- a segment that is accepted lies within the list
 pub step-within : (l : List ℕ) → stepVerdict l ≡ accepted → usedBy l ≤ length l

@@ -2,16 +2,15 @@
 use mathlib.Core.Path.{_≡_, refl, sym, ap, _∙_}
 use mathlib.Core.Bool.{Bool, true, false}
 use mathlib.Core.List.{List, [], _∷_, _++_, map}
-use Prim.Native.Nat.{ℕ, _+_, _-_, _/_, _≤_, _<_}
+use Prim.Native.Nat.{ℕ, _+_, _-_, _≤_, _<_}
 use native.Mathlib.Omega.{arith}
 use borrow.Author.Tests.{le-leb}
 use lib.ListN.{length, take, drop, getD, length-append, length-map}
 use lib.Seq.{take-at}
-use Rattle.pgs_base.specs.Bytes.{num}
-use Rattle.pgs_base.specs.Outcome.{Verdict, accepted, refused, Outcome, gives, refuses, andThen, unless, laid, delivery, Delivered, pick}
+use Rattle.pgs_base.specs.Outcome.{Verdict, accepted, refused, Outcome, gives, refuses, unless, laid, Delivered, pick}
 use Rattle.pgs_base.proofs.Bytes.{num-byte}
 use Rattle.pgs_base.proofs.Lists.{to-end}
-use Rattle.pgs_base.proofs.Outcomes.{delivered, delivered-value, delivered-refusal}
+use Rattle.pgs_base.proofs.Outcomes.{delivered, delivered-refusal}
 use Rattle.pgs_views.specs.declared.«segment_type».SegmentType.the-variants as kinds
 use Rattle.pgs_views.specs.Kinds.{typeOf}
 use Rattle.pgs_views.specs.declared.«segment_type».SegmentType.{SegmentType}
@@ -21,7 +20,7 @@ use Rattle.pgs_segment.specs.OneSegment.{segmentType, fieldsOf}
 use Rattle.pgs_segment.specs.declared.header.SegmentHeader.{SegmentHeader}
 use Rattle.pgs_segment.specs.OdsBody.{flagOf, headSize, odsOf, odsData}
 use Rattle.pgs_segment.specs.PcsBody.{placementOf, placementSize, placementRow, placementCount, placementsOf, placementRows, pcsOf, pcsVerdict}
-use Rattle.pgs_segment.specs.PdsBody.{entryOf, entrySize, entryRow, entryCount, entriesOf, entryRows, pdsOf, pdsVerdict}
+use Rattle.pgs_segment.specs.PdsBody.{entryOf, entrySize, entryRow, entryCount, entriesOf, entryRows, pdsOf}
 use Rattle.pgs_segment.specs.WdsBody.{windowOf, windowSize, windowRow, windowCount, windowsOf, windowRows, wdsVerdict}
 use Rattle.pgs_segment.specs.declared.ods.Ods.{Ods}
 use Rattle.pgs_segment.specs.declared.pcs.CompositionObject.{CompositionObject}
@@ -34,7 +33,6 @@ use Rattle.pgs_segment.specs.declared.wds.Window.{Window}
 use Rattle.pgs_segment.proofs.PcsLaws.{has-numbers}
 use Rattle.pgs_segment.proofs.WdsLaws.{has-count}
 use Rattle.pgs_segment.proofs.RecordLaws.{records-length}
-use Rattle.pgs_writer_base.specs.Answers.{writeOutcome, Wrote}
 use Rattle.pgs_encoding.specs.Encode.{encode}
 use Rattle.pgs_writer_base.specs.Kinds.{wdsSegment, pdsSegment, odsSegment, pcsSegment, pcsRowsWritable, segmentWith}
 use Rattle.pgs_encoding.specs.Layout.{each}

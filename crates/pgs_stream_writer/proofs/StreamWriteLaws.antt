@@ -1,8 +1,7 @@
 -- The loop that performs a list of writes: performing what is left from here ends where performing all ends. Assumes nothing.
 use mathlib.Core.Path.{_≡_, refl, sym, ap, _∙_}
-use mathlib.Core.Bool.{Bool, true, false}
 use mathlib.Core.List.{List, [], _∷_, _++_, map, append-nil}
-use Prim.Native.Nat.{ℕ, zero, suc, _+_, _-_, _≤_, _<_}
+use Prim.Native.Nat.{ℕ, suc, _+_, _-_, _≤_, _<_}
 use native.Mathlib.Omega.{arith}
 use borrow.Author.Tests.{leb-true}
 use lib.Dec.{leb}
@@ -10,7 +9,7 @@ use lib.ListN.{length, take, drop, length-append, length-drop, length-map, drop-
 use lib.Seq.{drop-drop, length-take-le, take-all}
 use Rattle.pgs_base.proofs.Lists.{to-end}
 use Rattle.pgs_base.proofs.Outcomes.{second-holds, holds, first-accepts}
-use Rattle.pgs_base.specs.Outcome.{Verdict, accepted, refused, Outcome, gives, refuses, outcomeOf, unless, needing, laid, delivery, Delivered}
+use Rattle.pgs_base.specs.Outcome.{Verdict, accepted, refused, Outcome, gives, refuses, outcomeOf, needing, laid, Delivered}
 use Rattle.pgs_stream.proofs.ReadingLaws.{own-fields}
 use Rattle.pgs_stream.proofs.StreamLaws.{read-on, read-stops, step-within}
 use Rattle.pgs_segment.specs.Fields.{SegmentFields}

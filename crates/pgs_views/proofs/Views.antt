@@ -1,5 +1,5 @@
 -- A byte that is read as a kind, a state or a fragment flag is that byte again: no two read alike. Assumes nothing.
-use mathlib.Core.Path.{_≡_, refl, sym, ap, _∙_}
+use mathlib.Core.Path.{_≡_, refl, sym, _∙_}
 use mathlib.Core.Bool.{Bool, true, false}
 use Prim.Native.Nat.{ℕ}
 use borrow.Author.Tests.{eqb-true}

@@ -1,12 +1,12 @@
 -- Stores that follow one another. Assumes nothing.
 use mathlib.Core.Path.{_≡_, refl, sym, ap, _∙_}
 use mathlib.Core.List.{List, [], _∷_, _++_, append-nil}
-use Prim.Native.Nat.{ℕ, zero, suc, _+_, _-_, _≤_, _<_}
+use Prim.Native.Nat.{ℕ, suc, _+_, _-_, _≤_, _<_}
 use native.Mathlib.Nat.{add-suc, suc-add, add-zero}
 use native.Mathlib.Numerals.{add-one}
 use native.Mathlib.Omega.{arith}
-use lib.ListN.{length, take, drop, getD, set, length-set, length-drop, length-append}
-use lib.Seq.{sets, set-out, sets-eq, length-sets, drop-cons, drop-length}
+use lib.ListN.{length, drop, getD, set, length-set}
+use lib.Seq.{sets, set-out, sets-eq, drop-cons, drop-length}
 use Rattle.pgs_base.specs.Bytes.{bytesOf}
 use Rattle.pgs_base.specs.Outcome.{accepted, laid}
 use Rattle.pgs_encoding.specs.Layout.{Field, written}

@@ -5,14 +5,13 @@ use mathlib.Core.List.{List, _++_}
 use Prim.Native.Nat.{ℕ, _+_, _^_, _≤_, _<_}
 use native.Mathlib.Omega.{arith}
 use borrow.Author.Tests.{lt-ltb, le-ltb}
-use lib.Dec.{ltb}
 use lib.ListN.{length, length-append}
 use lib.Seq.{sets}
-use Rattle.pgs_base.specs.Outcome.{gives, refuses, pick, unless, Delivered}
+use Rattle.pgs_base.specs.Outcome.{gives, refuses, unless, Delivered}
 use Rattle.pgs_base.proofs.Outcomes.{delivers-refusal, delivers-short, delivers-all}
 use Rattle.pgs_segment.specs.Fields.{SegmentFields, kindByte}
 use Rattle.pgs_encoding.specs.Encode.{headFields, bodyBytes, encode}
-use Rattle.pgs_encoding.specs.Layout.{Field, written, allFit}
+use Rattle.pgs_encoding.specs.Layout.{written, allFit}
 use Rattle.pgs_encoding.specs.Writable.{bodyWritable, writable}
 use Rattle.pgs_writer_base.proofs.FitLaws.{pick-neither}
 use Rattle.pgs_encoding.proofs.LayoutLaws.{length-written}

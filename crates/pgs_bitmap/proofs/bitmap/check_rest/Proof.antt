@@ -1,12 +1,11 @@
 -- `check_rest` meets its contract. The loop's invariant: reading on from here comes to what reading on from the start comes to. The
 -- measure is what is left of the data. Assumes nothing.
-use mathlib.Core.Path.{_≡_, refl, _∙_, subst}
+use mathlib.Core.Path.{refl, _∙_, subst}
 use Prim.Native.Nat.{_-_}
 use native.Mathlib.Omega.{arith}
 use lib.ListN.{length, drop}
 use denote.Ref.{now}
 use borrow.Author.Needs.{needs}
-use Rattle.pgs_bitmap.specs.RunLength.{run, found, codeOf}
 use Rattle.pgs_bitmap.specs.Bitmap.{readOn}
 use Rattle.pgs_bitmap.specs.Progress.{Reached, Stepped}
 use Rattle.pgs_bitmap.specs.declared.bitmap.Step.{Step}

@@ -1,7 +1,7 @@
 -- `store_eight` meets its contract. The loop's invariant: the pixels of the bytes before this one are stored. The measure is what is left
 -- of the eight. Assumes nothing.
 use mathlib.Core.Path.{_≡_, refl, _∙_, subst, subst₂}
-use Prim.Native.Nat.{ℕ, _+_, _-_, _≤_, _<_}
+use Prim.Native.Nat.{ℕ, _+_, _-_, _≤_}
 use native.Mathlib.Omega.{arith}
 use lib.ListN.{length, getD, set, length-set}
 use denote.Ref.{now}

@@ -6,8 +6,7 @@ use native.Mathlib.Omega.{arith}
 use lib.ListN.{length, drop}
 use denote.Ref.{now}
 use borrow.Author.Needs.{needs}
-use Rattle.pgs_base.specs.Refusals.{numberOf}
-use Rattle.pgs_bitmap.specs.RunLength.{run, lineEnd, found, truncated, codeOf}
+use Rattle.pgs_bitmap.specs.RunLength.{run, lineEnd, found, codeOf}
 use Rattle.pgs_bitmap.specs.NextCode.{firstCode}
 use Rattle.pgs_bitmap.specs.Progress.{Storing}
 use Rattle.pgs_bitmap.proofs.OneCode.{code-pixel, code-escape}

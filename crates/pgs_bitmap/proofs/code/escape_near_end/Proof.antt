@@ -2,7 +2,6 @@
 use mathlib.Core.Path.{_≡_, _∙_, ap₂}
 use mathlib.Core.List.{[], _∷_}
 use Prim.Native.Nat.{ℕ, _+_}
-use native.Mathlib.Omega.{arith}
 use lib.ListN.{getD}
 use denote.Ref.{now}
 use borrow.Author.Needs.{needs}

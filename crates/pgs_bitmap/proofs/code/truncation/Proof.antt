@@ -1,7 +1,6 @@
 -- `truncation` meets its contract, by the second byte. Assumes nothing.
 use mathlib.Core.Path.{refl}
 use mathlib.Core.List.{[]}
-use native.Mathlib.Omega.{arith}
 use Rattle.pgs_bitmap.proofs.OneCode.{run-long-zero, run-short-color, run-long-color}
 use Rattle.pgs_bitmap.proofs.code.truncation.Statement.{statement}
 use Rattle.pgs_bitmap.proofs.code.truncation.Tie as tie

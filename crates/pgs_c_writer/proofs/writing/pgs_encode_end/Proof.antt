@@ -4,7 +4,6 @@ use borrow.Author.Needs.{needs}
 use Rattle.pgs_c_writer.proofs.WriteCalls.{told-call}
 use Rattle.pgs_encoding.specs.Writable.{writable}
 use Rattle.pgs_writer_base.specs.Kinds.{endSegment}
-use denote.Ref.{now}
 use Rattle.pgs_c_writer.proofs.writing.pgs_encode_end.Statement.{statement}
 use Rattle.pgs_c_writer.proofs.writing.pgs_encode_end.Tie as tie
 

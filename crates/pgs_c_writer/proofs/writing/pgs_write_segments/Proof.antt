@@ -4,7 +4,7 @@ use borrow.Author.Needs.{needs}
 use Rattle.pgs_c_writer.proofs.WriteCalls.{writes-refused, writes-accepted}
 use Rattle.pgs_stream_writer.specs.StreamWrites.{writesOutcome}
 use denote.Ref.{now}
-use mathlib.Core.Path.{sym, ap, _∙_}
+use mathlib.Core.Path.{ap}
 use Rattle.pgs_c_writer.proofs.writing.pgs_write_segments.Statement.{statement}
 use Rattle.pgs_c_writer.proofs.writing.pgs_write_segments.Tie as tie
 

@@ -4,7 +4,7 @@ use borrow.Author.Needs.{needs}
 use Rattle.pgs_object.proofs.FindLaws.{Finding, finding, finds-here, found-all, finds-on, its-ods, finds-fit, found-refusal, finds-more}
 use Rattle.pgs_set.proofs.SetLaws.{size-read, read-within}
 use Rattle.pgs_object.specs.Tables.{chainsOutcome}
-use Prim.Native.Nat.{_+_, _-_}
+use Prim.Native.Nat.{_-_}
 use denote.Ref.{now}
 use lib.ListN.{length, drop}
 use mathlib.Core.Path.{ap, _∙_}

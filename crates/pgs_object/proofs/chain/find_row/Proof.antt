@@ -3,11 +3,11 @@
 use borrow.Author.Needs.{needs}
 use Rattle.pgs_object.proofs.ChainLaws.{row-here, row-on, row-none}
 use Rattle.pgs_object.specs.Tables.{rowWith}
-use borrow.Author.Needs.{needs, scaled-fits}
+use borrow.Author.Needs.{needs}
 use Prim.Native.Nat.{_+_, _-_, _≤_}
 use lib.ListN.{length, drop}
 use denote.Ref.{now}
-use mathlib.Core.Path.{_≡_, refl}
+use mathlib.Core.Path.{_≡_}
 use native.Mathlib.Omega.{arith}
 use Rattle.pgs_object.proofs.chain.find_row.Statement.{statement}
 use Rattle.pgs_object.proofs.chain.find_row.Tie as tie

@@ -3,7 +3,6 @@
 use borrow.Author.Needs.{needs}
 use Rattle.pgs_object.proofs.TableLaws.{opened-open, opened-closed, opened-new, opened-full}
 use denote.Ref.{now}
-use mathlib.Core.Path.{refl}
 use Rattle.pgs_object.proofs.chain.open_chain.Statement.{statement}
 use Rattle.pgs_object.proofs.chain.open_chain.Tie as tie
 

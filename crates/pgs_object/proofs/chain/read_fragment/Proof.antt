@@ -2,8 +2,8 @@
 -- Assumes nothing.
 use borrow.Author.Needs.{needs}
 use Rattle.pgs_base.specs.Outcome.{accepted}
-use Rattle.pgs_segment.specs.OdsBody.{flagOf, headSize, odsOutcome}
-use Rattle.pgs_segment.specs.OneSegment.{usedBy, bodyAt}
+use Rattle.pgs_segment.specs.OdsBody.{odsOutcome}
+use Rattle.pgs_segment.specs.OneSegment.{usedBy}
 use Rattle.pgs_stream.specs.Stream.{stepVerdict}
 use Rattle.pgs_segment.specs.declared.segment.BodyList.{BodyList}
 use Rattle.pgs_object.proofs.FragmentLaws.{numbers-read, never-refused, head-read, numbers-within}

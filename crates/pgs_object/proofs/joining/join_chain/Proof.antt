@@ -5,7 +5,7 @@ use Rattle.pgs_object.proofs.JoinLaws.{Joining, joining, joins-here, jo
 use Rattle.pgs_set.proofs.SetLaws.{size-read, read-within}
 use Prim.Native.Nat.{_+_, _-_}
 use denote.Ref.{now}
-use lib.ListN.{length, take, drop, length-take, length-drop}
+use lib.ListN.{length, drop, length-take, length-drop}
 use native.Mathlib.Omega.{arith}
 use Rattle.pgs_object.proofs.joining.join_chain.Statement.{statement}
 use Rattle.pgs_object.proofs.joining.join_chain.Tie as tie

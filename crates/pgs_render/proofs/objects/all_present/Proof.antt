@@ -1,11 +1,11 @@
 -- `all_present` looks for the object of each placement: the loop keeps `Presenting`.
 -- Assumes nothing.
 use borrow.Author.Needs.{needs}
-use Prim.Native.Nat.{_+_, _-_, _*_, _≤_, _<_}
-use mathlib.Core.Path.{_≡_, refl, sym, ap, _∙_}
+use Prim.Native.Nat.{_-_}
+use mathlib.Core.Path.{refl}
 use native.Mathlib.Omega.{arith}
 use denote.Ref.{now}
-use lib.ListN.{length, drop, getD}
+use lib.ListN.{length}
 use Rattle.pgs_render.proofs.RowLaws.{Presenting, presenting, presents-on, presents-not, presents-all}
 use Rattle.pgs_render.proofs.objects.all_present.Statement.{statement}
 use Rattle.pgs_render.proofs.objects.all_present.Tie as tie

@@ -1,11 +1,11 @@
 -- `check_bitmaps` reads bitmap after bitmap: the loop keeps `Reading`.
 -- Assumes nothing.
 use borrow.Author.Needs.{needs}
-use Prim.Native.Nat.{_+_, _-_, _*_, _≤_, _<_}
-use mathlib.Core.Path.{_≡_, refl, sym, ap, _∙_}
+use Prim.Native.Nat.{_-_}
+use mathlib.Core.Path.{refl, sym, ap, _∙_}
 use native.Mathlib.Omega.{arith}
 use denote.Ref.{now}
-use lib.ListN.{length, drop, getD}
+use lib.ListN.{length}
 use Rattle.pgs_bitmap.specs.Decoding.{outcome}
 use Rattle.pgs_render.proofs.RowLaws.{Reading, reading, reads-not, reads-on, reads-all}
 use Rattle.pgs_render.proofs.objects.check_bitmaps.Statement.{statement}

@@ -1,11 +1,10 @@
 -- `has_object` passes the rows with other ids: the loop keeps `Seeking`.
 -- Assumes nothing.
 use borrow.Author.Needs.{needs}
-use Prim.Native.Nat.{_+_, _-_, _*_, _≤_, _<_}
-use mathlib.Core.Path.{_≡_, refl, sym, ap, _∙_}
+use Prim.Native.Nat.{_-_}
 use native.Mathlib.Omega.{arith}
 use denote.Ref.{now}
-use lib.ListN.{length, drop, getD}
+use lib.ListN.{length}
 use Rattle.pgs_render.proofs.RowLaws.{Seeking, seeking, seeks-here, seeks-on, seeks-none}
 use Rattle.pgs_render.proofs.objects.has_object.Statement.{statement}
 use Rattle.pgs_render.proofs.objects.has_object.Tie as tie

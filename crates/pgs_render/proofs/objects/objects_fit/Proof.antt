@@ -1,11 +1,11 @@
 -- `objects_fit` takes the need of each row from the room: the loop keeps `Fitting`.
 -- Assumes nothing.
 use borrow.Author.Needs.{needs}
-use Prim.Native.Nat.{_+_, _-_, _*_, _≤_, _<_}
-use mathlib.Core.Path.{_≡_, refl, sym, ap, _∙_}
+use Prim.Native.Nat.{_-_}
+use mathlib.Core.Path.{refl}
 use native.Mathlib.Omega.{arith}
 use denote.Ref.{now}
-use lib.ListN.{length, drop, getD}
+use lib.ListN.{length}
 use Rattle.pgs_render.proofs.RowLaws.{Fitting, fitting, fits-not, fits-on, fits-all}
 use Rattle.pgs_bitmap.proofs.DecodeAnswers.{area-fits}
 use Rattle.pgs_render.proofs.objects.objects_fit.Statement.{statement}

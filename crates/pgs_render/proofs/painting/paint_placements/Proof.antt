@@ -2,11 +2,10 @@
 -- Assumes nothing.
 use mathlib.Core.List.{[]}
 use borrow.Author.Needs.{needs}
-use Prim.Native.Nat.{_+_, _-_, _*_, _≤_, _<_}
-use mathlib.Core.Path.{_≡_, refl, sym, ap, _∙_}
+use Prim.Native.Nat.{_-_, _*_}
 use native.Mathlib.Omega.{arith}
 use denote.Ref.{now}
-use lib.ListN.{length, take, drop, getD}
+use lib.ListN.{length, getD}
 use Rattle.pgs_render.proofs.PaintLaws.{Painting, painting, paints-within, paints-on, painted-all, lent-part}
 use Rattle.pgs_render.proofs.painting.paint_placements.Statement.{statement}
 use Rattle.pgs_render.proofs.painting.paint_placements.Tie as tie

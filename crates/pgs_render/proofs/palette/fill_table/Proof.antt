@@ -1,11 +1,11 @@
 -- `fill_table` lays the palettes of a set up to its END: the loop keeps `Tabling`.
 -- Assumes nothing.
 use borrow.Author.Needs.{needs}
-use Prim.Native.Nat.{_+_, _-_, _*_, _≤_, _<_}
-use mathlib.Core.Path.{_≡_, refl, sym, ap, _∙_}
+use Prim.Native.Nat.{_-_}
+use mathlib.Core.Path.{sym, ap, _∙_}
 use native.Mathlib.Omega.{arith}
 use denote.Ref.{now}
-use lib.ListN.{length, drop, getD}
+use lib.ListN.{length}
 use Rattle.pgs_segment.specs.Header.{headerOutcome}
 use Rattle.pgs_color.specs.Bytes.{rgbOf}
 use Rattle.pgs_color.specs.Table.{laid}

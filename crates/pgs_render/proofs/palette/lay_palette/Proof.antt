@@ -4,12 +4,11 @@ use Rattle.pgs_base.specs.Bytes.{num}
 use Prim.Native.Nat.{_/_}
 use Rattle.pgs_color.proofs.Laying.{laid-other}
 use Rattle.pgs_render.specs.Palettes.{entriesIn}
-use borrow.Author.Needs.{needs}
-use Prim.Native.Nat.{_+_, _-_, _*_, _≤_, _<_}
-use mathlib.Core.Path.{_≡_, refl, sym, ap, _∙_}
+use Prim.Native.Nat.{_-_}
+use mathlib.Core.Path.{refl, _∙_}
 use native.Mathlib.Omega.{arith}
 use denote.Ref.{now}
-use lib.ListN.{length, drop, getD}
+use lib.ListN.{length}
 use Rattle.pgs_base.proofs.Bytes.{num-byte}
 use Rattle.pgs_segment.proofs.PdsLaws.{has-numbers}
 use Rattle.pgs_color.specs.Bytes.{rgbOf}

@@ -5,8 +5,7 @@ use borrow.Author.Tests.{not-true, not-false}
 use denote.Ref.{now}
 use Prim.Native.Nat.{_*_}
 use Rattle.pgs_plane.proofs.PlaneLaws.{area-fits}
-use lib.ListN.{length}
-use mathlib.Core.Path.{refl, sym, ap, _∙_}
+use mathlib.Core.Path.{sym, ap, _∙_}
 use native.Mathlib.Omega.{arith}
 use Rattle.pgs_bitmap.specs.Decoding.{outcome}
 use Rattle.pgs_render.proofs.RenderLaws.{listed-narrow, listed-total, scratch-short, scratch-room, plane-short, all-room, readied, renders-none, renders-joined, renders-all}

@@ -1,11 +1,10 @@
 -- `store_bitmaps` stores one after another: the loop keeps `Storing`.
 -- Assumes nothing.
 use borrow.Author.Needs.{needs}
-use mathlib.Core.List.{[]}
-use Prim.Native.Nat.{_+_, _-_, _*_, _≤_, _<_}
+use Prim.Native.Nat.{_-_}
 use native.Mathlib.Omega.{arith}
 use denote.Ref.{now}
-use lib.ListN.{length, getD}
+use lib.ListN.{length}
 use Rattle.pgs_render.proofs.StoreLaws.{Storing, storing, stores-within, stores-one, stores-on, stored-all}
 use Rattle.pgs_render.proofs.storing.store_bitmaps.Statement.{statement}
 use Rattle.pgs_render.proofs.storing.store_bitmaps.Tie as tie

@@ -1,8 +1,8 @@
 -- `group_inside` goes by the kind, and at a WDS by whether the set has one.
 -- Assumes nothing.
 use borrow.Author.Needs.{needs}
-use Rattle.pgs_set.proofs.GroupLaws.{of-kind, of-state, with-windows, without-windows}
-use Rattle.pgs_set.specs.declared.grouping.Grouping.the-variants.{Outside, Inside}
+use Rattle.pgs_set.proofs.GroupLaws.{of-kind, with-windows, without-windows}
+use Rattle.pgs_set.specs.declared.grouping.Grouping.the-variants.{Inside}
 use mathlib.Core.Path.{refl}
 use Rattle.pgs_set.proofs.grouping.group_inside.Statement.{statement}
 use Rattle.pgs_set.proofs.grouping.group_inside.Tie as tie

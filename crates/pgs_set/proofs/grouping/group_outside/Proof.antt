@@ -1,8 +1,8 @@
 -- `group_outside` goes by the kind.
 -- Assumes nothing.
 use borrow.Author.Needs.{needs}
-use Rattle.pgs_set.proofs.GroupLaws.{of-kind, of-state, with-windows, without-windows}
-use Rattle.pgs_set.specs.declared.grouping.Grouping.the-variants.{Outside, Inside}
+use Rattle.pgs_set.proofs.GroupLaws.{of-kind}
+use Rattle.pgs_set.specs.declared.grouping.Grouping.the-variants.{Outside}
 use mathlib.Core.Path.{refl}
 use Rattle.pgs_set.proofs.grouping.group_outside.Statement.{statement}
 use Rattle.pgs_set.proofs.grouping.group_outside.Tie as tie

@@ -1,9 +1,7 @@
 -- `group_segment` goes by the state.
 -- Assumes nothing.
 use borrow.Author.Needs.{needs}
-use Rattle.pgs_set.proofs.GroupLaws.{of-kind, of-state, with-windows, without-windows}
-use Rattle.pgs_set.specs.declared.grouping.Grouping.the-variants.{Outside, Inside}
-use mathlib.Core.Path.{refl}
+use Rattle.pgs_set.proofs.GroupLaws.{of-state}
 use Rattle.pgs_set.proofs.grouping.group_segment.Statement.{statement}
 use Rattle.pgs_set.proofs.grouping.group_segment.Tie as tie
 

@@ -2,11 +2,10 @@
 -- Assumes nothing.
 use borrow.Author.Needs.{needs}
 use Rattle.pgs_set.proofs.SetLaws.{read-within, Storing, storing, stores-on, stored-sets, finds-more, opens-read, ends-read, outside-here}
-use Rattle.pgs_set.specs.Walks.{InSet}
 use Rattle.pgs_set.specs.Sets.{setCount}
 use borrow.Author.Needs.{needs, scaled-fits}
 use Prim.Native.Nat.{_<_}
-use Prim.Native.Nat.{_+_, _-_}
+use Prim.Native.Nat.{_-_}
 use denote.Ref.{now}
 use lib.ListN.{length}
 use native.Mathlib.Omega.{arith}

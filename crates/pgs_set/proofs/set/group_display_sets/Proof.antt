@@ -4,7 +4,7 @@ use borrow.Author.Needs.{needs}
 use Rattle.pgs_base.proofs.Outcomes.{gave, turned-down, refuses-as}
 use Rattle.pgs_base.specs.Outcome.{Verdict, andThen, outcomeOf}
 use Rattle.pgs_stream.specs.Stream.{readOf, streamVerdict, segmentCount, streamOutcome}
-use Rattle.pgs_set.specs.Sets.{groupVerdict, setCount, setsVerdict}
+use Rattle.pgs_set.specs.Sets.{groupVerdict, setCount}
 use Rattle.pgs_set.specs.declared.grouping.Grouping.the-variants.{Outside}
 use denote.Ref.{now}
 use mathlib.Core.Path.{sym, ap, _∙_}

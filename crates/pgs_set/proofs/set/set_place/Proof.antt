@@ -2,13 +2,11 @@
 -- Assumes nothing.
 use borrow.Author.Needs.{needs}
 use Rattle.pgs_set.proofs.SetLaws.{read-within, Finding, finding, finds-more, finds-on, found-set, opens-read, ends-read, outside-here}
-use Rattle.pgs_set.specs.Walks.{InSet}
 use Rattle.pgs_set.specs.Sets.{setCount}
 use Prim.Native.Nat.{_≤_, _<_}
 use mathlib.Core.Path.{_≡_}
-use Prim.Native.Nat.{_+_, _-_}
+use Prim.Native.Nat.{_-_}
 use denote.Ref.{now}
-use lib.ListN.{length}
 use native.Mathlib.Omega.{arith}
 use Rattle.pgs_set.proofs.set.set_place.Statement.{statement}
 use Rattle.pgs_set.proofs.set.set_place.Tie as tie

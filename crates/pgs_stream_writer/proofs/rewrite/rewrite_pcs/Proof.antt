@@ -1,7 +1,6 @@
 -- `rewrite_pcs` gives the placements that it read to the writer.
 -- Assumes nothing.
 use borrow.Author.Needs.{needs}
-use Rattle.pgs_base.specs.Outcome.{gives, refuses, Delivered}
 use Rattle.pgs_segment.specs.PcsBody.{placementRow, placementsOf, pcsOutcome}
 use Rattle.pgs_stream_writer.proofs.ReadAgain.{not-refused, room, front-length, read-again, same-write, placement-back, placement-list, placement-count, few-placements, pcs-again, marked, front}
 use Rattle.pgs_stream_writer.proofs.rewrite.rewrite_pcs.Statement.{statement}
@@ -11,8 +10,7 @@ use Prim.Native.Nat.{ℕ}
 use Rattle.pgs_segment.specs.declared.pcs.Pcs.{Pcs}
 use denote.Ref.{now}
 use lib.ListN.{take}
-use mathlib.Core.Path.{_≡_, sym, ap, _∙_}
-use native.Mathlib.Omega.{arith}
+use mathlib.Core.Path.{ap, _∙_}
 use Rattle.pgs_stream_writer.proofs.rewrite.rewrite_pcs.Tie as tie
 
 slice-aggregate-parse : tie.Need-slice-aggregate-parse

@@ -1,7 +1,6 @@
 -- `rewrite_pds` gives the entries that it read to the writer.
 -- Assumes nothing.
 use borrow.Author.Needs.{needs}
-use Rattle.pgs_base.specs.Outcome.{gives, refuses, Delivered}
 use Rattle.pgs_segment.specs.PdsBody.{entryRow, entriesOf, pdsOutcome}
 use Rattle.pgs_stream_writer.proofs.ReadAgain.{not-refused, room, front-length, read-again, same-write, entry-back, entry-list, entry-count, few-entries, pds-again}
 use Rattle.pgs_stream_writer.proofs.rewrite.rewrite_pds.Statement.{statement}
@@ -11,8 +10,7 @@ use Prim.Native.Nat.{ℕ}
 use Rattle.pgs_segment.specs.declared.pds.Pds.{Pds}
 use denote.Ref.{now}
 use lib.ListN.{take}
-use mathlib.Core.Path.{_≡_, sym, ap, _∙_}
-use native.Mathlib.Omega.{arith}
+use mathlib.Core.Path.{ap, _∙_}
 use Rattle.pgs_stream_writer.proofs.rewrite.rewrite_pds.Tie as tie
 
 slice-aggregate-parse : tie.Need-slice-aggregate-parse

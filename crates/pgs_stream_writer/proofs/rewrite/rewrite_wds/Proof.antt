@@ -1,16 +1,14 @@
 -- `rewrite_wds` gives the windows that it read to the writer.
 -- Assumes nothing.
 use borrow.Author.Needs.{needs}
-use Rattle.pgs_base.specs.Outcome.{gives, refuses, Delivered}
-use Rattle.pgs_segment.specs.WdsBody.{windowRow, windowCount, windowsOf, windowRows, wdsVerdict, wdsOutcome}
+use Rattle.pgs_segment.specs.WdsBody.{windowRow, windowsOf, wdsOutcome}
 use Rattle.pgs_stream_writer.proofs.ReadAgain.{not-refused, room, front-length, read-again, same-write, window-back, window-list, window-count, few-windows, wds-again}
 use Rattle.pgs_stream_writer.proofs.rewrite.rewrite_wds.Statement.{statement}
 use Rattle.pgs_writer_base.specs.Rows.{windowFrom}
 use Rattle.pgs_base.proofs.Outcomes.{delivered-value}
 use denote.Ref.{now}
 use lib.ListN.{take}
-use mathlib.Core.Path.{_≡_, sym, ap, _∙_}
-use native.Mathlib.Omega.{arith}
+use mathlib.Core.Path.{ap, _∙_}
 use Rattle.pgs_stream_writer.proofs.rewrite.rewrite_wds.Tie as tie
 
 slice-aggregate-parse : tie.Need-slice-aggregate-parse

@@ -1,7 +1,7 @@
 -- `used_by` is the head and the size that it says.
 -- Assumes nothing.
 use borrow.Author.Needs.{needs}
-use Prim.Native.Nat.{ℕ, _+_, _≤_, _<_}
+use Prim.Native.Nat.{ℕ, _+_, _≤_}
 use Rattle.pgs_base.proofs.Bytes.{num-cells}
 use Rattle.pgs_base.specs.Outcome.{accepted}
 use Rattle.pgs_segment.proofs.SegmentLaws.{accepted-size}

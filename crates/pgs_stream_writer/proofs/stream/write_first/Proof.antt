@@ -1,16 +1,13 @@
 -- `write_first` performs one write after another: the loop keeps `Performing`.
 -- Assumes nothing.
-use borrow.Author.Needs.{needs}
-use Prim.Native.Nat.{ℕ, _+_, _-_}
+use Prim.Native.Nat.{ℕ, _-_}
 use Rattle.pgs_base.specs.Outcome.{gives}
 use Rattle.pgs_segment.specs.OneSegment.{usedBy}
 use Rattle.pgs_base.proofs.Lists.{to-end}
 use Rattle.pgs_stream_writer.proofs.StreamWriteLaws.{Performing, performing, performed, next-lent, next-within, lent-write, put-back, ends-within, counts-one, performs-on}
 use Rattle.pgs_stream_writer.proofs.stream.write_first.Statement.{statement}
 use denote.Ref.{now}
-use lib.ListN.{length, take, drop}
-use mathlib.Core.List.{List}
-use mathlib.Core.Path.{_≡_, sym, ap, _∙_}
+use mathlib.Core.Path.{sym, ap, _∙_}
 use native.Mathlib.Omega.{arith}
 use Rattle.pgs_stream_writer.proofs.stream.write_first.Tie as tie
 

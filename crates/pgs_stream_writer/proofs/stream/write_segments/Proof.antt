@@ -1,13 +1,12 @@
 -- `write_segments` counts the segments, and writes as many as were asked for.
 -- Assumes nothing.
 use borrow.Author.Needs.{needs}
-use Prim.Native.Nat.{ℕ}
 use Rattle.pgs_base.proofs.Outcomes.{gave, gave-value, turned-down}
 use Rattle.pgs_stream.specs.Stream.{streamVerdict, segmentCount, streamOutcome}
 use Rattle.pgs_stream_writer.proofs.StreamWriteLaws.{accepted-writes, refused-writes, all-writes}
 use Rattle.pgs_stream_writer.proofs.stream.write_segments.Statement.{statement}
 use denote.Ref.{now}
-use mathlib.Core.Path.{_≡_, refl, sym, ap, _∙_}
+use mathlib.Core.Path.{refl, sym, ap, _∙_}
 use native.Mathlib.Omega.{arith}
 use Rattle.pgs_stream_writer.proofs.stream.write_segments.Tie as tie
 

@@ -1,15 +1,13 @@
 -- `put_crop` stores the four fields where there is a crop.
 -- Assumes nothing.
-use Rattle.pgs_writer_base.proofs.PlacementLaws.{crop-none, crop-some, crop-stored}
+use Rattle.pgs_writer_base.proofs.PlacementLaws.{crop-none, crop-stored}
 use Rattle.pgs_writer_pcs.proofs.pcs.put_crop.Statement.{statement}
 use Rattle.pgs_encoding.specs.Layout.{Field, written}
 use borrow.Author.Needs.{needs}
 use denote.Ref.{now}
-use lib.ListN.{length}
 use lib.Seq.{sets}
 use mathlib.Core.List.{List}
 use mathlib.Core.Path.{sym, ap}
-use native.Mathlib.Omega.{arith}
 use Rattle.pgs_writer_pcs.proofs.pcs.put_crop.Tie as tie
 
 array-read-if1 : tie.Need-array-read-if1

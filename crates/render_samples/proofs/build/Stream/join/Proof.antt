@@ -1,5 +1,4 @@
 -- `Stream::join` is safe and ends. The measure is what is left of the part. Assumes nothing.
-use borrow.Author.Needs.{needs}
 use Prim.Native.Nat.{_-_, _≤_}
 use native.Mathlib.Omega.{arith}
 use lib.ListN.{length}
