@@ -1,7 +1,7 @@
 //! PGS (Blu-ray bitmap subtitle) streams, read and written by a library whose every function is proved.
 //!
 //! A call is done whole or refused with a [`Refusal`], whose number docs/REFUSALS.md explains; a refused call changes
-//! nothing. The functions here bring the memory for what they answer. Those of [`lent`] are the library's own, one for
+//! nothing, save [`lent::render`] refused by 24 to 33. The functions here bring the memory for what they answer. Those of [`lent`] are the library's own, one for
 //! each function of include/pgs.h: the caller lends the lists and buffers, and nothing is allocated.
 //!
 //! ```

@@ -39,9 +39,9 @@ module _ (width height lines column : ℕ) (l : List ℕ) (at : ℕ) where
       → here ≡ counted (readOn width height lines (column + count) (drop (at + n) l))
   read-run e h = ap (read-codes width height lines column) (codes-after l at e) ∙ simp (le-leb _ _ h)
 
-  pub read-overrun : {count color n : ℕ} → codeOf (drop at l) ≡ found (run count color) n → width < column + count
+  pub read-past-width : {count color n : ℕ} → codeOf (drop at l) ≡ found (run count color) n → width < column + count
       → here ≡ stopped (refused 24)
-  read-overrun e h = ap (read-codes width height lines column) (codes-after l at e) ∙ simp (lt-leb _ _ h)
+  read-past-width e h = ap (read-codes width height lines column) (codes-after l at e) ∙ simp (lt-leb _ _ h)
 
   pub read-line : {n : ℕ} → codeOf (drop at l) ≡ found lineEnd n → column ≡ width → lines < height
       → here ≡ counted (readOn width height (lines + 1) 0 (drop (at + n) l))
@@ -149,9 +149,9 @@ module _ {l : List ℕ} {width height lines column at : ℕ} {v : Verdict} where
       → u ≡ v
   stops r e = sym (ap (λ (x : Reading). x .verdict) e) ∙ r .same
 
-  pub reached-overrun : {count color n : ℕ} → Reached l width height lines column at v → codeOf (drop at l) ≡ found (run count color) n
+  pub reached-past-width : {count color n : ℕ} → Reached l width height lines column at v → codeOf (drop at l) ≡ found (run count color) n
       → width < column + count → refused 24 ≡ v
-  reached-overrun r e h = stops r (read-overrun width height lines column l at e h)
+  reached-past-width r e h = stops r (read-past-width width height lines column l at e h)
 
   pub reached-short-line : {n : ℕ} → Reached l width height lines column at v → codeOf (drop at l) ≡ found lineEnd n
       → (column ≡ width → ⊥) → refused 29 ≡ v
@@ -180,4 +180,4 @@ pub ran-stepped : {l : List ℕ} {width height lines column at count color n : �
     → codeOf (drop at l) ≡ found (run count color) n → Ran width lines column at count n step → Stepped l width height lines column at step
 ran-stepped {l} {at = at} (To p) here e ran =
     (omega (arith, taken-at l at (here .within) e .0, ran .3), rw (ran .1, ran .2, ran .3) (reached-run here e (ran .0)))
-ran-stepped (Refused why) here e ran = ap refused (ran .1) ∙ reached-overrun here e (ran .0)
+ran-stepped (Refused why) here e ran = ap refused (ran .1) ∙ reached-past-width here e (ran .0)

@@ -14,7 +14,7 @@ use Rattle.pgs_base.specs.Outcome.{Verdict, refused}
 use Rattle.pgs_bitmap.specs.Bitmap.{readOn}
 use Rattle.pgs_bitmap.specs.Progress.{Reached, Literals}
 use Rattle.pgs_bitmap.proofs.OneCode.{code-pixel}
-use Rattle.pgs_bitmap.proofs.BitmapSteps.{reached-run, reached-overrun, reached-step}
+use Rattle.pgs_bitmap.proofs.BitmapSteps.{reached-run, reached-past-width, reached-step}
 
 module _ (l : List ℕ) (at : ℕ) where
   pub literals-none : Literals l at 0
@@ -65,11 +65,11 @@ module _ {l : List ℕ} {width height lines column at : ℕ} {v : Verdict} where
       (reached-run (literals-fit n r (λ k h. literals k (omega arith)) (omega arith) (omega arith))
       (code-pixel l (at + n) (omega arith) (literals n (omega arith))) (omega arith))
 
-  literals-overrun : (n : ℕ) → Reached l width height lines column at v → Literals l at n
+  literals-past-width : (n : ℕ) → Reached l width height lines column at v → Literals l at n
       → width < column + n → at + n ≤ length l → refused 24 ≡ v
-  literals-overrun n r literals wide there =
+  literals-past-width n r literals wide there =
       let m = width - column in
-      reached-overrun (literals-fit m r (λ k h. literals k (omega (arith, r .narrow))) (omega (arith, r .narrow)) (omega (arith, r .narrow)))
+      reached-past-width (literals-fit m r (λ k h. literals k (omega (arith, r .narrow))) (omega (arith, r .narrow)) (omega (arith, r .narrow)))
       (code-pixel l (at + m) (omega (arith, r .narrow)) (literals m (omega (arith, r .narrow)))) (omega (arith, r .narrow))
 
 module _ {l : List ℕ} {width height lines column from at : ℕ} {v : Verdict} (p : Passing l width height lines column from at v) where
@@ -106,9 +106,9 @@ module _ {l : List ℕ} {width height lines column from at : ℕ} {v : Verdict} 
       (literals-fit (at - from) (p .reached) (p .literals) (omega (arith, p .reached .narrow)) (omega (arith, p .order, p .within)))
 
   -- one of them passes the width
-  pub passing-overrun : width - column < at - from → refused 24 ≡ v
-  passing-overrun h =
-      literals-overrun (at - from) (p .reached) (p .literals) (omega (arith, p .reached .narrow)) (omega (arith, p .order, p .within))
+  pub passing-past-width : width - column < at - from → refused 24 ≡ v
+  passing-past-width h =
+      literals-past-width (at - from) (p .reached) (p .literals) (omega (arith, p .reached .narrow)) (omega (arith, p .order, p .within))
 
 -- one code further on
 pub passing-step : {l : List ℕ} {width height lines column at lines′ column′ at′ : ℕ} {v : Verdict} → Reached l width height lines column at v

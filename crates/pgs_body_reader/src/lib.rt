@@ -131,7 +131,8 @@ impl<'a> BodyReader<'a> {
     }
 }
 
-// The head of a fragment, read through a reader. Its parameter is a plain slice, so whoever calls it needs no walk.
+// The head of a fragment, read through a reader. A read that is refused is passed over, and the next goes on at the same place. The
+// parameter is a plain slice, so whoever calls it needs no walk.
 pub fn fragment_head(body: &[u8]) -> FragmentHead
     ensures { λ r. ⌜ Headed (now (body .entry)) r ⌝ }
 {
@@ -150,7 +151,7 @@ pub fn fragment_head(body: &[u8]) -> FragmentHead
     }
 }
 
-// The data of a fragment that is not the first: the rest after its head, through a reader.
+// The bytes after the last read of the head that was accepted: the data of a fragment that is not the first, where its head is whole.
 pub fn fragment_data<'a>(body: &'a [u8]) -> &'a [u8]
     ensures { λ r. ⌜ now r ≡ drop (placeFrom headWidths 0 (now (body .entry))) (now (body .entry)) ⌝ }
 {

@@ -1,3 +1,4 @@
+// A line of text for each display set (01, 'Bench samples').
 mod card;
 pub mod cards;
 mod line;

@@ -1,3 +1,4 @@
+// The objects of a display set and their joined data (01, module 7).
 mod chain;
 mod finding;
 mod joining;

@@ -3,6 +3,7 @@ use pgs_color::palette::apply;
 use pgs_color::palette::clear;
 use pgs_segment::header::HeaderAnswer;
 use pgs_segment::header::SegmentHeader;
+use pgs_set::set::is_end;
 use pgs_views::segment_type::SegmentType;
 ghost use mathlib.Core.Path.{_≡_};
 ghost use mathlib.Core.List.{_∷_, []};
@@ -12,22 +13,9 @@ ghost use Rattle.pgs_base.specs.Outcome.{accepted};
 ghost use Rattle.pgs_segment.specs.PdsBody.{pdsVerdict};
 ghost use Rattle.pgs_color.specs.Bytes.{rgbOf};
 ghost use Rattle.pgs_color.specs.Table.{laid, cleared};
-ghost use Rattle.pgs_set.specs.Sets.{throughEnd, isEnd};
+ghost use Rattle.pgs_set.specs.Sets.{throughEnd};
 ghost use Rattle.pgs_set.specs.Walks.{InSet, piecesAt};
 ghost use Rattle.pgs_render.specs.Palettes.{isPds, entriesNamed, entriesAmong};
-
-fn is_end(kind: SegmentType) -> bool
-    ensures { λ r. ⌜ r ≡ isEnd kind ⌝ }
-{
-    match kind {
-        SegmentType::End => true,
-        SegmentType::Pcs => false,
-        SegmentType::Wds => false,
-        SegmentType::Pds => false,
-        SegmentType::Ods => false,
-        SegmentType::Other(_) => false,
-    }
-}
 
 fn is_pds(kind: SegmentType) -> bool
     ensures { λ r. ⌜ r ≡ isPds kind ⌝ }

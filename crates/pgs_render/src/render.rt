@@ -210,7 +210,7 @@ fn render_listed(
     ensures { λ r. ⌜ Rendered rgbOf (objectsVerdict set (now (s .entry))) (setNumber set (now (s .entry))) (objectsOf set (now (s .entry))) (now (scratch .entry)) (now (scratch .exit)) (now (plane .entry)) (now (plane .exit)) (renderOutcome r) ⌝ }
 {
     match find_set(s, set) {
-        // cannot be: the set has objects
+        // cannot be: its objects were listed
         SetAnswer::Refused(why) => RenderAnswer::Refused(why),
         SetAnswer::Set(place, _, pts) => render_found(s, set, place, pts, rows, scratch, plane),
     }

@@ -1,3 +1,4 @@
+// Segments: the head, the bodies of PCS, WDS, PDS and ODS, one segment (01, modules 2 to 4).
 mod fields;
 pub mod header;
 pub mod ods;

@@ -29,6 +29,7 @@ pub fn put_u16(out: &mut [u8], at: usize, n: u16)
     put_byte(out, at + 1, (n % 256) as u8);
 }
 
+// The low 24 bits; the writers refuse a larger number first.
 pub fn put_u24(out: &mut [u8], at: usize, n: u32)
     ensures { λ _. ⌜ now (out .exit) ≡ sets (now (out .entry)) at (bytesOf 3 n) ⌝ }
 {

@@ -12,15 +12,18 @@ fn colors(s: Stream) -> Stream {
     )
 }
 
-// Two objects side by side, the second over the end of the first.
-fn last_placement_wins() {
-    let both = Stream::new().pcs(
+// Two placements, the second over the end of the first.
+fn two_placements() -> Stream {
+    Stream::new().pcs(
         4,
         1,
         2,
         b"\x00\x07\x00\x00\x00\x00\x00\x00\x00\x08\x00\x00\x00\x01\x00\x00",
-    );
-    let objects = colors(both)
+    )
+}
+
+fn last_placement_wins() {
+    let objects = colors(two_placements())
         .first(7, 0xC0, 6, 2, 1, b"\x01\x01")
         .first(8, 0xC0, 6, 2, 1, b"\x09\x02");
     show::painted(b"a pixel without an entry wins", objects.end(), 0, 4, 16);
@@ -29,6 +32,15 @@ fn last_placement_wins() {
     show::painted(b"plane of 15", objects.end(), 0, 4, 15);
     show::painted(b"set 1 of one", objects.end(), 1, 4, 16);
     show::painted(b"no END", objects, 0, 4, 16);
+}
+
+// A pixel of alpha 0, and one without an entry, replace what is below.
+fn transparent_pixels_replace() {
+    let s = two_placements()
+        .pds(5, b"\x01\x51\xF0\x5A\xFF\x02\x10\x80\x80\x00")
+        .first(7, 0xC0, 6, 2, 1, b"\x01\x01")
+        .first(8, 0xC0, 6, 2, 1, b"\x02\x03");
+    show::painted(b"transparent pixels", s.end(), 0, 4, 16);
 }
 
 // Which palettes apply.
@@ -85,9 +97,9 @@ fn refusals() {
     let joined = absent.first(7, 0x80, 6, 2, 1, b"\x01").last(7, b"\x02");
     show::painted(b"absent object", joined.end(), 0, 4, 8);
     show::painted(b"absent object, plane of 7", joined.end(), 0, 4, 7);
-    let ragged = joined.first(8, 0xC0, 5, 2, 1, b"\x01");
-    show::painted(b"and a ragged one", ragged.end(), 0, 6, 8);
-    show::painted(b"and scratch of 5", ragged.end(), 0, 5, 8);
+    let partial = joined.first(8, 0xC0, 5, 2, 1, b"\x01");
+    show::painted(b"and one with a partial line", partial.end(), 0, 6, 8);
+    show::painted(b"and scratch of 5", partial.end(), 0, 5, 8);
     let empty = Stream::new()
         .pcs(0, 0, 1, b"\x00\x63\x00\x00\x00\x00\x00\x00")
         .end();
@@ -109,6 +121,7 @@ fn refusals() {
 
 fn main() {
     last_placement_wins();
+    transparent_pixels_replace();
     palettes();
     crops();
     refusals();

@@ -7,7 +7,7 @@ use std::collections::BTreeSet;
 pub const TOO_SHORT: u8 = 34;
 
 /// Given when the format cannot hold the fields that are to be written; the Rust writes other ones.
-pub const UNWRITABLE: u8 = 35;
+pub const NOT_ENCODABLE: u8 = 35;
 
 /// Each message that reading, grouping, joining, decoding and painting can give, with its number.
 /// 23, 34, 35 and 36 are refusals that the Rust lacks.

@@ -186,9 +186,9 @@ pub fn triples(to: &mut Sink) {
         shorts.push(plain(PCS, &body));
         shorts.push(plain(PCS, &body[..body.len() - 1]));
     }
-    let mut wrong_mark = plain(END, &[]);
-    wrong_mark[1] = b'g';
-    shorts.push(wrong_mark);
+    let mut bad_magic = plain(END, &[]);
+    bad_magic[1] = b'g';
+    shorts.push(bad_magic);
     for a in &shorts {
         for b in &shorts {
             to.stream(&[&a[..], b].concat());

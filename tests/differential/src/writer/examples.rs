@@ -6,7 +6,7 @@ use super::*;
 use crate::examples::{bytes, rust_gives, Example, Outcome};
 use crate::generate::{plain, CROPPED, END};
 use crate::library::{OdsCells, PcsRecord, PlacementRecord};
-use crate::numbers::UNWRITABLE;
+use crate::numbers::NOT_ENCODABLE;
 use published::pgs::SegmentBody;
 
 pub const EXAMPLES: [Example; 9] = [
@@ -33,8 +33,8 @@ fn bytes_are(body: Body, wanted: &str, tally: &mut Tally) -> Outcome {
     check_fields(&fields, &wanted, tally)
 }
 
-fn is_unwritable(body: Body, tally: &mut Tally) -> Outcome {
-    check_fields(&fields(body), &Err(UNWRITABLE), tally)
+fn is_not_encodable(body: Body, tally: &mut Tally) -> Outcome {
+    check_fields(&fields(body), &Err(NOT_ENCODABLE), tally)
 }
 
 /// A composition of 4 by 1.
@@ -54,8 +54,8 @@ fn most_records(tally: &mut Tally) -> Outcome {
         let bytes = written.map_err(|number| format!("the published Rust: {number}"))?;
         rust_gives(Fields::read(&bytes)?, &fields)?;
     }
-    is_unwritable(placements(256), tally)?;
-    is_unwritable(windows(256), tally)
+    is_not_encodable(placements(256), tally)?;
+    is_not_encodable(windows(256), tally)
 }
 
 /// A placement of object `id` with this flag, no crop.
@@ -83,20 +83,20 @@ fn too_large(tally: &mut Tally) -> Outcome {
     for (cell, wide) in [(2, 0x110), (4, 0x180), (5, 0x100), (6, 0xFFFF)] {
         let mut plane = PLANE;
         plane[cell] = wide;
-        is_unwritable(Body::Pcs(plane, vec![]), tally)?;
+        is_not_encodable(Body::Pcs(plane, vec![]), tally)?;
     }
     for (cell, wide) in [(1, 0x100), (2, 0x140), (2, 0x100), (5, 2), (5, 0x100), (5, 0xFFFF)] {
         let mut placement = uncropped(1, 0);
         placement[cell] = wide;
-        is_unwritable(pcs(&[placement]), tally)?;
+        is_not_encodable(pcs(&[placement]), tally)?;
     }
-    is_unwritable(Body::Wds(vec![[256, 0, 0, 0, 0]]), tally)?;
+    is_not_encodable(Body::Wds(vec![[256, 0, 0, 0, 0]]), tally)?;
     let wide =
         [(0, 70_000), (1, 256), (2, 0x180), (3, u32::MAX), (4, 2), (4, 0x101), (5, 65_536), (6, 65_538)];
     for (cell, wide) in wide {
         let mut cells = [1, 0, 0xC0, 4, 1, 2, 1];
         cells[cell] = wide;
-        is_unwritable(Body::Ods(cells, vec![]), tally)?;
+        is_not_encodable(Body::Ods(cells, vec![]), tally)?;
     }
     // Cells of what is not present do not count.
     let head = "5047 00015F90 00000001";
@@ -119,10 +119,10 @@ fn one_dimension(_: &mut Tally) -> Outcome {
 
 /// `check_fields` lends nothing, too little and enough.
 fn unwritable_first(tally: &mut Tally) -> Outcome {
-    is_unwritable(pcs(&vec![uncropped(1, 0); 256]), tally)?;
-    is_unwritable(pcs(&[uncropped(1, 0), uncropped(1, 0x40)]), tally)?;
-    is_unwritable(Body::Other(0x99, vec![0; 65_536]), tally)?;
-    is_unwritable(Body::Other(END, vec![]), tally)
+    is_not_encodable(pcs(&vec![uncropped(1, 0); 256]), tally)?;
+    is_not_encodable(pcs(&[uncropped(1, 0), uncropped(1, 0x40)]), tally)?;
+    is_not_encodable(Body::Other(0x99, vec![0; 65_536]), tally)?;
+    is_not_encodable(Body::Other(END, vec![]), tally)
 }
 
 /// Any state, ids that come twice, a declared length of 0, or unlike the data.

@@ -3,7 +3,7 @@
 use super::fields::{Body, Fields};
 use crate::generate::{CROPPED, KNOWN, PCS, WDS};
 use crate::library::{EntryRecord, OdsCells, PcsRecord, PdsRecord, PlacementRecord, WindowRecord};
-use crate::numbers::UNWRITABLE;
+use crate::numbers::NOT_ENCODABLE;
 use crate::segments::oracle::LARGEST_BODY;
 use published::pgs::{
     CompositionObject, CompositionObjectCrop, Ods, PaletteEntry, Pcs, Pds, Segment, SegmentBody,
@@ -16,7 +16,7 @@ pub type WantedBytes = Result<Vec<u8>, u8>;
 /// What a writer should give. Fields are writable where the Rust reads back what it writes: this must be so exactly
 /// where document 01 does not list them.
 pub fn written(fields: &Fields) -> WantedBytes {
-    let Some(segment) = segment(fields) else { return Err(UNWRITABLE) };
+    let Some(segment) = segment(fields) else { return Err(NOT_ENCODABLE) };
     let bytes = segment.encode();
     let back = Segment::parse(&bytes);
     let whole = back.is_ok_and(|(read, used)| {
@@ -24,7 +24,7 @@ pub fn written(fields: &Fields) -> WantedBytes {
         used == bytes.len() && times == fields.times && read.body == segment.body
     });
     assert!(whole != listed(&fields.body), "document 01 and the Rust part on {fields:?}");
-    whole.then_some(bytes).ok_or(UNWRITABLE)
+    whole.then_some(bytes).ok_or(NOT_ENCODABLE)
 }
 
 /// Whether document 01 lists the body under 35, its cells being within their fields.

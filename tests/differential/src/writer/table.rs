@@ -5,7 +5,7 @@ use super::fields::{Body, Fields};
 use super::{check_fields, oracle};
 use crate::compare::Tally;
 use crate::examples::{rust_gives, Outcome};
-use crate::numbers::UNWRITABLE;
+use crate::numbers::NOT_ENCODABLE;
 use crate::segments::oracle::first;
 use published::pgs::{CompositionObject, SegmentBody};
 
@@ -49,8 +49,8 @@ pub fn unwritable(tally: &mut Tally) -> Outcome {
     let mut table = vec!["| fields | the Rust writes | read back |".to_string(), "|---|---|---|".to_string()];
     for (name, body) in cases() {
         let fields = fields(body);
-        rust_gives(oracle::written(&fields), &Err(UNWRITABLE))?;
-        check_fields(&fields, &Err(UNWRITABLE), tally).map_err(|what| format!("{name}: {what}"))?;
+        rust_gives(oracle::written(&fields), &Err(NOT_ENCODABLE))?;
+        check_fields(&fields, &Err(NOT_ENCODABLE), tally).map_err(|what| format!("{name}: {what}"))?;
         table.push(line(name, &fields));
     }
     let on_page = PAGE.lines().skip_while(|line| **line != table[0]).take_while(|line| line.starts_with('|'));

@@ -11,7 +11,7 @@ use Rattle.pgs_bitmap.specs.Progress.{Reached, Stepped}
 use Rattle.pgs_bitmap.specs.declared.bitmap.Step.{Step}
 use Rattle.pgs_bitmap.specs.declared.bitmap.Step.the-variants.{To}
 use Rattle.pgs_bitmap.proofs.BitmapSteps.{reached-start}
-use Rattle.pgs_bitmap.proofs.LiteralStretch.{Passing, passing-reached, passing-stretch, passing-fits, passing-overrun, passing-step}
+use Rattle.pgs_bitmap.proofs.LiteralStretch.{Passing, passing-reached, passing-stretch, passing-fits, passing-past-width, passing-step}
 use Rattle.pgs_bitmap.proofs.bitmap.check_codes.Statement.{statement}
 use Rattle.pgs_bitmap.proofs.bitmap.check_codes.Tie as tie
 
@@ -65,7 +65,7 @@ sub-if2-2 : tie.Need-sub-if2-2 Inv-loop μ-loop
 sub-if2-2 c = c .before .before .before .loop .inv .order
 
 returns : tie.Need-returns Inv-loop μ-loop
-returns c = passing-overrun (c .before .before .before .before .loop .inv) (c .if2 .taken)
+returns c = passing-past-width (c .before .before .before .before .loop .inv) (c .if2 .taken)
 
 sub-after-whole-escape : tie.Need-sub-after-whole-escape Inv-loop μ-loop
 sub-after-whole-escape c = c .before .before .before .before .loop .inv .order
@@ -98,7 +98,7 @@ sub-if3-2 : tie.Need-sub-if3-2 Inv-loop μ-loop
 sub-if3-2 c = c .before .loop .inv .order
 
 returns-3 : tie.Need-returns-3 Inv-loop μ-loop
-returns-3 c = passing-overrun (c .before .before .loop .inv) (c .if3 .taken)
+returns-3 c = passing-past-width (c .before .before .loop .inv) (c .if3 .taken)
 
 sub-check-rest : tie.Need-sub-check-rest Inv-loop μ-loop
 sub-check-rest c = c .before .before .loop .inv .order

@@ -11,7 +11,7 @@ use Rattle.pgs_bitmap.specs.Progress.{Reached, Stepped}
 use Rattle.pgs_bitmap.specs.declared.bitmap.Step.{Step}
 use Rattle.pgs_bitmap.specs.declared.bitmap.Step.the-variants.{To}
 use Rattle.pgs_bitmap.proofs.OneCode.{code-pixel}
-use Rattle.pgs_bitmap.proofs.BitmapSteps.{reached-run, reached-overrun, reached-step, reached-end}
+use Rattle.pgs_bitmap.proofs.BitmapSteps.{reached-run, reached-past-width, reached-step, reached-end}
 use Rattle.pgs_bitmap.proofs.bitmap.check_rest.Statement.{statement}
 use Rattle.pgs_bitmap.proofs.bitmap.check_rest.Tie as tie
 
@@ -35,7 +35,7 @@ shared-slice-read-if1 : tie.Need-shared-slice-read-if1 Inv-loop μ-loop
 shared-slice-read-if1 c = search needs
 
 returns : tie.Need-returns Inv-loop μ-loop
-returns c = reached-overrun (c .before .before .before .before .loop .inv) (code-pixel (now (c .before .before .before .before .before .before .args .«data»)) (c .before .before .before .before .loop .at) (c .before .before .before .loop-test .taken) (c .before .if1 .taken)) (omega arith)
+returns c = reached-past-width (c .before .before .before .before .loop .inv) (code-pixel (now (c .before .before .before .before .before .before .args .«data»)) (c .before .before .before .before .loop .at) (c .before .before .before .loop-test .taken) (c .before .if1 .taken)) (omega arith)
 
 add-column : tie.Need-add-column Inv-loop μ-loop
 add-column c = omega arith
