@@ -227,15 +227,6 @@ module _ (s : List ℕ) (v : Verdict) (cs : List Chain) (table : List (List ℕ)
     lists-all h e =
         delivers-all (r .accepts) (omega (arith, rows-count, record-count 0 cs)) rows-count (e ∙ ap (λ (l : List (List ℕ)). laid accepted l list) records)
 
-  module _ {scratch : List ℕ} where
-    pub joins-short : length scratch < need → Delivered v (length cs) (joinedData cs) scratch scratch (refuses 34)
-    joins-short h = delivers-short (r .accepts) (omega (arith, need-is))
-
-    pub joins-all : {scratch′ : List ℕ} → need ≤ length scratch → scratch′ ≡ laid accepted (joinedRows s (take n table)) scratch
-        → Delivered v (length cs) (joinedData cs) scratch scratch′ (gives n)
-    joins-all h e =
-        delivers-all (r .accepts) (omega (arith, need-is)) rows-count (e ∙ ap (λ (l : List ℕ). laid accepted l scratch) (r .bytes))
-
   module _ {list : List (List ℕ)} {scratch : List ℕ} where
     pub both-few : length list < n → Reassembled v cs list list scratch scratch (refuses 34)
     both-few h = reassembles-few (r .accepts) (omega (arith, rows-count))

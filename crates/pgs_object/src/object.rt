@@ -12,12 +12,7 @@ ghost use lib.ListN.{length};
 ghost use Rattle.pgs_base.specs.Outcome.{outcomeOf, Delivered};
 ghost use Rattle.pgs_object.specs.Objects.{allObjectsVerdict, objectsOf, objectsVerdict, objectsVerdictWithin};
 ghost use Rattle.pgs_set.specs.Sets.{setCount, setsOutcome};
-ghost use Rattle.pgs_object.specs.Reassembly.{
-  joinedData,
-  objectRows,
-  objectsOutcome,
-  Reassembled,
-};
+ghost use Rattle.pgs_object.specs.Reassembly.{objectRows, objectsOutcome, Reassembled};
 
 // The most objects that a set may have.
 pub const OBJECT_LIMIT: usize = 64;
@@ -74,21 +69,6 @@ fn listed(
     }
 }
 
-fn joined(s: &[u8], set: usize, table: &mut [[usize; 10]], scratch: &mut [u8]) -> ObjectsAnswer
-    ensures { λ r. ⌜ Delivered (objectsVerdictWithin (length (now (table .entry))) set (now (s .entry))) (length (objectsOf set (now (s .entry)))) (joinedData (objectsOf set (now (s .entry)))) (now (scratch .entry)) (now (scratch .exit)) (objectsOutcome r) ⌝ }
-{
-    match find_objects(s, set, table) {
-        FoundAnswer::Refused(why) => ObjectsAnswer::Refused(why),
-        FoundAnswer::Found(n, room) => {
-            if scratch.len() < room {
-                return ObjectsAnswer::Refused(Refusal::BufferTooSmall);
-            }
-            joining::join_objects(s, &table[..n], scratch);
-            ObjectsAnswer::Objects(n)
-        }
-    }
-}
-
 // Reassembles the objects of set number `set`: a record for each fills `objects`, from the front, and the chains of several fragments
 // are joined in the scratch, from its start.
 pub fn reassemble_objects(
@@ -123,12 +103,4 @@ pub fn list_objects(s: &[u8], set: usize, objects: &mut [[u64; 7]]) -> ObjectsAn
 {
     let mut table = [[0usize; 10]; OBJECT_LIMIT];
     listed(s, set, &mut table, objects)
-}
-
-// Joins the chains of several fragments of set number `set` in the scratch, from its start, and answers how many objects it has.
-pub fn join_objects(s: &[u8], set: usize, scratch: &mut [u8]) -> ObjectsAnswer
-    ensures { λ r. ⌜ Delivered (objectsVerdict set (now (s .entry))) (length (objectsOf set (now (s .entry)))) (joinedData (objectsOf set (now (s .entry)))) (now (scratch .entry)) (now (scratch .exit)) (objectsOutcome r) ⌝ }
-{
-    let mut table = [[0usize; 10]; OBJECT_LIMIT];
-    joined(s, set, &mut table, scratch)
 }

@@ -7,10 +7,11 @@ use native.Mathlib.Omega.{arith}
 use borrow.Author.Tests.{ltb-true}
 use lib.Dec.{ltb}
 use lib.ListN.{length, getD, length-append}
-use Rattle.pgs_base.specs.Outcome.{accepted, pick}
+use Rattle.pgs_base.specs.Outcome.{accepted, unless, pick}
 use Rattle.pgs_base.proofs.Outcomes.{first-accepts, second-holds, holds}
 use Rattle.pgs_bitmap.specs.Bitmap.{bitmapOf}
-use Rattle.pgs_object.specs.Objects.{Fragment, Chain, ChainState, unseen, continuing, complete, idOf, opensChain, withId, chainsOf, widthOf, heightOf, dataOf, dataPlace, stateOf, firstVerdict, nextVerdict, fragmentVerdict, verdictAfter, chainsVerdict, fragmentsVerdict}
+use Rattle.pgs_object.specs.Objects.{Fragment, Chain, ChainState, unseen, continuing, complete, idOf, opensChain, withId, chainsOf, widthOf, heightOf, dataOf, dataPlace, stateOf, firstVerdict, nextVerdict, fragmentVerdict, verdictAfter, chainsVerdict, fragmentsVerdict, fragmentsOf, objectLimit, objectsOf, objectsVerdict}
+use Rattle.pgs_set.specs.Sets.{setNumber, setsVerdict, setCount}
 use Rattle.pgs_object.specs.Reassembly.{copied, copiedData, joinedData, objectRow, rowsFrom, shownBy}
 use Rattle.pgs_render.specs.Images.{areaOf, bitmapsOf}
 use Rattle.pgs_render.specs.Rows.{rowsArea, rowsBitmaps, Held}
@@ -84,3 +85,9 @@ few-after limit (f ∷ fs) earlier e h =
 
 pub few-objects : (limit : ℕ) (fs : List Fragment) → fragmentsVerdict limit fs ≡ accepted → length (chainsOf fs) ≤ limit
 few-objects limit fs e = few-after limit fs [] (first-accepts (verdictAfter limit [] fs) (chainsVerdict (chainsOf fs)) e) (omega arith)
+
+-- a set that is not refused has no more objects than the limit
+pub few-accepted : (k : ℕ) (s : List ℕ) → objectsVerdict k s ≡ accepted → length (objectsOf k s) ≤ objectLimit
+unfolding objectsOf
+few-accepted k s e =
+    few-objects objectLimit (fragmentsOf (setNumber k s)) (second-holds (unless 36 (ltb k (setCount s))) _ (second-holds (setsVerdict s) _ e))

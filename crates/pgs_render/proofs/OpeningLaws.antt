@@ -35,7 +35,7 @@ use Rattle.pgs_set.proofs.WalkLaws.{kind-accepted}
 use Rattle.pgs_render.specs.Rendering.{roomVerdict, answerOf, Rendered}
 use Rattle.pgs_render.specs.Steps.{Listed, Opened, Composed, Placed}
 use Rattle.pgs_render.proofs.EntryLaws.{num-one}
-use Rattle.pgs_render.proofs.ObjectLaws.{few-objects}
+use Rattle.pgs_render.proofs.ObjectLaws.{few-accepted}
 use Rattle.pgs_render.proofs.PaletteLaws.{no-head}
 use Rattle.pgs_render.proofs.RenderLaws.{renders-none}
 
@@ -73,10 +73,7 @@ module _ (k : ℕ) (s : List ℕ) where
   rows-length at (c ∷ xs) = ap suc (rows-length (at + length (copiedData c)) xs)
 
   few-listed : objectsVerdict k s ≡ accepted → length (objectRows (objectsOf k s)) ≤ 64
-  unfolding objectsOf
-  few-listed e =
-      omega
-      (arith, rows-length 0 (objectsOf k s), few-objects objectLimit (fragmentsOf (setNumber k s)) (second-holds (unless 36 (ltb k (setCount s))) _ (second-holds (setsVerdict s) _ e)))
+  few-listed e = omega (arith, rows-length 0 (objectsOf k s), few-accepted k s e)
 
   module _ {list list′ : List (List ℕ)} where
     pub lists-refused : {n : ℕ} → Delivered (objectsVerdict k s) (length (objectsOf k s)) (objectRows (objectsOf k s)) list list′ (refuses n)

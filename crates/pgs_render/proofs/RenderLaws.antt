@@ -10,7 +10,7 @@ use lib.Dec.{leb}
 use lib.ListN.{length, take, drop, length-append}
 use lib.Seq.{take-at, drop-at, drop-drop}
 use Rattle.pgs_base.specs.Bytes.{Bytes}
-use Rattle.pgs_base.specs.Outcome.{Verdict, accepted, refused, Outcome, outcomeOf, andThen, unless, needing, laid, Delivered, pick}
+use Rattle.pgs_base.specs.Outcome.{Verdict, accepted, refused, Outcome, outcomeOf, andThen, unless, needing, laid, pick}
 use Rattle.pgs_base.proofs.Outcomes.{first-accepts, second-holds}
 use Rattle.pgs_bitmap.specs.Bitmap.{readingOf, bitmapOf}
 use Rattle.pgs_bitmap.proofs.BitmapArea.{bitmap-area}
@@ -29,7 +29,7 @@ use Rattle.pgs_segment.specs.declared.pcs.CompositionObject.{CompositionObject}
 use Rattle.pgs_segment.specs.declared.pcs.Pcs.{Pcs}
 use Rattle.pgs_object.specs.Objects.{Chain, dataOf, widthOf, heightOf, objectsOf, objectsVerdict}
 use Rattle.pgs_set.specs.Sets.{setNumber, DisplaySet, throughEnd}
-use Rattle.pgs_object.specs.Reassembly.{joinedData, objectRows, shownBy}
+use Rattle.pgs_object.specs.Reassembly.{joinedData, objectRows, shownBy, Reassembled}
 use Rattle.pgs_set.specs.Walks.{piecesAt}
 use Rattle.pgs_object.proofs.ViewLaws.{shown-data}
 use Rattle.pgs_render.specs.Images.{lookIn, bitmapsOf, areaOf, bitmapsVerdict}
@@ -40,7 +40,7 @@ use Rattle.pgs_render.specs.Steps.{Listed, Opened, Placed, JoinedAndRead
 use Rattle.pgs_render.proofs.ColorLaws.{table-shown}
 use Rattle.pgs_render.proofs.EntryLaws.{few-ids}
 use Rattle.pgs_render.proofs.NarrowLaws.{objects-narrow}
-use Rattle.pgs_render.proofs.ObjectLaws.{area-of, bitmaps-of, rows-held}
+use Rattle.pgs_render.proofs.ObjectLaws.{area-of, bitmaps-of, rows-held, few-accepted}
 use Rattle.pgs_render.proofs.RowLaws.{need-of, total-of, reading-of, present-of}
 use Rattle.pgs_render.proofs.ShownLaws.{shown-rows, look-same}
 
@@ -149,12 +149,13 @@ module _ (k : ℕ) (s : List ℕ) where
               }
 
     -- the data joined by the call that does it
-    pub joins : {n : Outcome ℕ} {scratch scratch′ : List ℕ} → length (joinedData (objectsOf k s)) ≤ length scratch
-        → Delivered (objectsVerdict k s) (length (objectsOf k s)) (joinedData (objectsOf k s)) scratch scratch′ n
+    pub joins : {n : Outcome ℕ} {list list′ : List (List ℕ)} {scratch scratch′ : List ℕ} → length list ≡ 64
+        → length (joinedData (objectsOf k s)) ≤ length scratch
+        → Reassembled (objectsVerdict k s) (objectsOf k s) list list′ scratch scratch′ n
         → scratch′ ≡ laid accepted (joinedData (objectsOf k s)) scratch
-    joins {scratch = scratch} room d =
+    joins {list = list} {scratch = scratch} few room d =
         d .written
-        ∙ (λ j. laid (andThen (l .taken j) (unless 34 (le-leb (length (joinedData (objectsOf k s))) (length scratch) room j))) (joinedData (objectsOf k s)) scratch)
+        ∙ (λ j. laid (andThen (l .taken j) (andThen (unless 34 (le-leb (length (objectsOf k s)) (length list) (omega (arith, few-accepted k s (l .taken))) j)) (unless 34 (le-leb (length (joinedData (objectsOf k s))) (length scratch) room j)))) (joinedData (objectsOf k s)) scratch)
 
     -- 24 to 33
     pub reads-content : {placements : List (List ℕ)} → placements ≡ map placementRow (placementsIn (setNumber k s)) → {scratch scratch′ : List ℕ}

@@ -9,8 +9,8 @@ use pgs_base::refusal::Refusal;
 use pgs_bitmap::bitmap::Decoded;
 use pgs_object::object::OBJECT_LIMIT;
 use pgs_object::object::ObjectsAnswer;
-use pgs_object::object::join_objects;
 use pgs_object::object::list_objects;
+use pgs_object::object::reassemble_objects;
 use pgs_plane::plane::clear_plane;
 use pgs_segment::header::HeaderAnswer;
 use pgs_segment::header::SegmentHeader;
@@ -64,7 +64,8 @@ fn join_and_read(
     requires { ⌜ length (joinedData (objectsOf set (now s))) ≤ length (now scratch) ⌝ }
     ensures { λ r. ⌜ JoinedAndRead set (now (s .entry)) (now (scratch .entry)) (now (scratch .exit)) (outcome r) ⌝ }
 {
-    join_objects(s, set, scratch);
+    let mut objects = [[0u64; 7]; OBJECT_LIMIT];
+    reassemble_objects(s, set, scratch, &mut objects);
     check_content(s, &scratch[..], rows, placements)
 }
 

@@ -20,7 +20,7 @@ use Rattle.pgs_segment.specs.declared.header.SegmentHeader.{SegmentHeader}
 use Rattle.pgs_views.specs.declared.«segment_type».SegmentType.{SegmentType}
 use Rattle.pgs_views.specs.declared.«segment_type».SegmentType.the-variants.{Pds, Ods, Pcs, Wds, End, Other}
 use Rattle.pgs_set.proofs.Choices.{pick-first, pick-second}
-use Rattle.pgs_set.proofs.WalkLaws.{step-here, pieces-here, pieces-end, within-here, good-after, group-here, stands-on, kind-accepted, type-of-piece, piece-length, head-field}
+use Rattle.pgs_set.proofs.WalkLaws.{stops-here, step-here, pieces-here, pieces-end, good-end, within-here, stream-after, group-here, stands-on, kind-accepted, type-of-piece, piece-length, head-field}
 use Rattle.pgs_set.specs.Sets.{DisplaySet, noSet, groupVerdict, kindVerdict, stateAfter, isPcs, isEnd, opens, throughEnd, bytesIn, setsFrom, setsOf, setCount, setsVerdict, endOf, setRow, setRows}
 use Rattle.pgs_set.specs.Walks.{piecesAt, Standing, InSet, Ends, SetStands, endFrom, setAt}
 use Rattle.pgs_set.specs.declared.grouping.Grouping.{Grouping}
@@ -78,57 +78,64 @@ module _ (s : List ℕ) (at : ℕ) (ok : stepVerdict (drop at s) ≡ accepted) w
       go true xs = omega arith
       go false xs = omega arith
 
--- the segments before `at` are grouped: n sets were opened, and this state is reached
+-- the segments before `at` are read and grouped: n sets were opened, and this state is reached
 pub record Counting (s : List ℕ) (g : Grouping) (at n : ℕ) : Type 0 where
   pub inside : at ≤ length s
-  pub good : streamVerdict (drop at s) ≡ accepted
   pub few : n ≤ at
-  pub verdict : groupVerdict g (piecesAt s at) ≡ groupVerdict Outside (readOf s .pieces)
+  pub verdict : andThen (streamVerdict (drop at s)) (groupVerdict g (piecesAt s at)) ≡ setsVerdict s
   pub count : n + length (setsFrom at (piecesAt s at)) ≡ setCount s
 
 module _ (s : List ℕ) where
-  pub counting : streamVerdict s ≡ accepted → Counting s Outside 0 0
+  pub counting : Counting s Outside 0 0
   unfolding setsOf
-  counting good = record { inside = omega arith; good = good; few = omega arith; verdict = refl; count = omega arith }
+  counting = record { inside = omega arith; few = omega arith; verdict = refl; count = omega arith }
 
   module _ {g : Grouping} {at n : ℕ} (c : Counting s g at n) where
-    pub counts-here : at < length s → stepVerdict (drop at s) ≡ accepted
-    counts-here h = step-here s at h (c .good)
+    -- the next segment cannot be read
+    pub counted-short : at < length s → {k : ℕ} → stepVerdict (drop at s) ≡ refused k → setsVerdict s ≡ refused k
+    counted-short m e =
+        sym (c .verdict) ∙ ap (λ (v : Verdict). andThen v (groupVerdict g (piecesAt s at))) (stops-here s at m e)
 
-    pub counts-on : at < length s → {h : SegmentHeader} {t : SegmentType} {g′ : Grouping} {k : ℕ} → h ≡ headerFields (drop at s)
-        → t ≡ typeOf (h .«segment_type») → gives g′ ≡ outcomeOf (kindVerdict g t) (stateAfter g t) → k ≡ opens t
-        → Counting s g′ (at + (13 + h .«segment_size»)) (n + k)
-    counts-on m {h} {t} {g′} {k} e q r o =
-        let ok = counts-here m in
-        let kind : t ≡ segmentType (drop at s) = kind-read (drop at s) e q in
-        let taken : kindVerdict g (segmentType (drop at s)) ≡ accepted
-        = ap (kindVerdict g) (sym kind) ∙ gave (kindVerdict g t) (stateAfter g t) r in
-        let next : g′ ≡ stateAfter g (segmentType (drop at s)) = gave-value (kindVerdict g t) (stateAfter g t) r ∙ ap (stateAfter g) kind in
-        let opened : k ≡ opens (segmentType (drop at s)) = o ∙ ap opens kind in
-        rw (size-read (drop at s) e, next, opened)
-        (record {
-          inside = within-here s at ok;
-          good = good-after s at ok (c .good);
-          few = omega (arith, c .few, opens-few (segmentType (drop at s)));
-          verdict = sym (group-here s at ok g ∙ ap (λ (v : Verdict). andThen v (groupVerdict (stateAfter g (segmentType (drop at s))) (piecesAt s (at + usedBy (drop at s))))) taken) ∙ c .verdict;
-          count = omega (arith, sets-count s at ok, c .count);
-        })
+    -- it is read: its head and its kind
+    module _ (ok : stepVerdict (drop at s) ≡ accepted) {h : SegmentHeader} {t : SegmentType} (e : h ≡ headerFields (drop at s)) (q : t ≡ typeOf (h .«segment_type»)) where
+      -- the verdict of what is left, by that of its kind
+      left : {v : Verdict} → kindVerdict g t ≡ v
+          → andThen (streamVerdict (drop (at + (13 + h .«segment_size»)) s)) (andThen v (groupVerdict (stateAfter g t) (piecesAt s (at + (13 + h .«segment_size»)))))
+          ≡ setsVerdict s
+      left {v} taken =
+          rw (size-read (drop at s) e)
+          ((λ j. andThen (stream-after s at ok j) (andThen (sym taken j) (groupVerdict (stateAfter g t) (piecesAt s (at + usedBy (drop at s))))))
+          ∙ ap (andThen (streamVerdict (drop at s))) (ap (λ (x : SegmentType). andThen (kindVerdict g x) (groupVerdict (stateAfter g x) (piecesAt s (at + usedBy (drop at s))))) (kind-read (drop at s) e q) ∙ sym (group-here s at ok g))
+          ∙ c .verdict)
 
-    pub counted-refusal : at < length s → {h : SegmentHeader} {t : SegmentType} {k : ℕ} → h ≡ headerFields (drop at s)
-        → t ≡ typeOf (h .«segment_type») → refuses k ≡ outcomeOf (kindVerdict g t) (stateAfter g t)
-        → groupVerdict Outside (readOf s .pieces) ≡ refused k
-    counted-refusal m {h} {t} e q r =
-        let ok = counts-here m in
-        let turned : kindVerdict g (segmentType (drop at s)) ≡ refused _
-        = ap (kindVerdict g) (sym (kind-read (drop at s) e q)) ∙ turned-down (kindVerdict g t) (stateAfter g t) r in
-        sym (c .verdict)
-        ∙ (group-here s at ok g ∙ ap (λ (v : Verdict). andThen v (groupVerdict (stateAfter g (segmentType (drop at s))) (piecesAt s (at + usedBy (drop at s))))) turned)
+      pub counts-on : {g′ : Grouping} {k : ℕ} → gives g′ ≡ outcomeOf (kindVerdict g t) (stateAfter g t) → k ≡ opens t
+          → Counting s g′ (at + (13 + h .«segment_size»)) (n + k)
+      counts-on {g′} {k} r o =
+          let next : g′ ≡ stateAfter g t = gave-value (kindVerdict g t) (stateAfter g t) r in
+          let opened : k ≡ opens (segmentType (drop at s)) = o ∙ ap opens (kind-read (drop at s) e q) in
+          let size : 13 + h .«segment_size» ≡ usedBy (drop at s) = size-read (drop at s) e in
+          rw next
+          (record {
+            inside = read-within s at ok e;
+            few = omega (arith, c .few, opens-few (segmentType (drop at s)));
+            verdict = left (gave (kindVerdict g t) (stateAfter g t) r);
+            count = rw size (omega (arith, sets-count s at ok, c .count));
+          })
 
-    pub counted-sets : length s ≤ at → outcomeOf (groupVerdict g []) n ≡ outcomeOf (groupVerdict Outside (readOf s .pieces)) (setCount s)
+      pub counted-refusal : {k : ℕ} → refuses k ≡ outcomeOf (kindVerdict g t) (stateAfter g t)
+          → andThen (streamVerdict (drop (at + (13 + h .«segment_size»)) s)) (refused k) ≡ setsVerdict s
+      counted-refusal r = left (turned-down (kindVerdict g t) (stateAfter g t) r)
+
+    pub counted-sets : length s ≤ at → outcomeOf (groupVerdict g []) n ≡ outcomeOf (setsVerdict s) (setCount s)
     counted-sets h =
         let none = pieces-end s at h in
         let all : n ≡ setCount s = omega (arith, c .count, ap (λ (xs : List (List ℕ)). length (setsFrom at xs)) none) in
-        λ j. outcomeOf ((ap (groupVerdict g) (sym none) ∙ c .verdict) j) (all j)
+        λ j. outcomeOf (((λ i. andThen (sym (good-end s at h) i) (groupVerdict g (sym none i))) ∙ c .verdict) j) (all j)
+
+-- a refusal answers no value
+pub refusal-alone : (v : Verdict) (k a b : ℕ) → outcomeOf (andThen v (refused k)) a ≡ outcomeOf (andThen v (refused k)) b
+refusal-alone accepted k a b = refl
+refusal-alone (refused m) k a b = refl
 
 -- a set that is open goes on after a segment that is no END
 pub goes-on : (w : Bool) (t : SegmentType) → isEnd t ≡ false → (w′ : Bool) × (stateAfter (Inside w) t ≡ Inside w′)

@@ -38,26 +38,33 @@ pub piece-length : (l : List ℕ) → stepVerdict l ≡ accepted → length (tak
 piece-length l e = length-take-le (usedBy l) l (step-within l e)
 
 module _ (s : List ℕ) (at : ℕ) where
+  -- a segment that is refused stops the reading
+  pub stops-here : at < length s → {k : ℕ} → stepVerdict (drop at s) ≡ refused k → streamVerdict (drop at s) ≡ refused k
+  stops-here h e =
+      ap stoppedBy (ap (λ (x : Reading). x .rest) (read-stops (drop at s) e))
+      ∙ (stopped-at (drop at s) (rw length-drop (omega arith)) ∙ e)
+
   -- a segment stands where an accepted stream is not at its end
   pub step-here : at < length s → streamVerdict (drop at s) ≡ accepted → stepVerdict (drop at s) ≡ accepted
   step-here h good = go (stepVerdict (drop at s)) refl
     where
       go : (v : Verdict) → stepVerdict (drop at s) ≡ v → stepVerdict (drop at s) ≡ accepted
       go accepted e = e
-      go (refused k) e =
-          sym (stopped-at (drop at s) (rw length-drop (omega arith)))
-          ∙ ap stoppedBy (sym (ap (λ (x : Reading). x .rest) (read-stops (drop at s) e)))
-          ∙ good
+      go (refused k) e = let no : refused k ≡ accepted = sym (stops-here h e) ∙ good in e ∙ no
 
-  -- the end has no segment
-  pub pieces-end : length s ≤ at → piecesAt s at ≡ []
-  pieces-end h =
-      ap (λ (l : List ℕ). readOf l .pieces) (none (drop at s) (rw length-drop (omega arith)))
-      ∙ ap (λ (x : Reading). x .pieces) (read-stops [] refl)
+  -- the end has no segment, and refuses nothing
+  empty-end : length s ≤ at → drop at s ≡ []
+  empty-end h = none (drop at s) (rw length-drop (omega arith))
     where
       none : (l : List ℕ) → length l ≡ 0 → l ≡ []
       none [] e = refl
       none (x ∷ l) e = absurd (omega arith)
+
+  pub good-end : length s ≤ at → streamVerdict (drop at s) ≡ accepted
+  good-end h = ap (λ (l : List ℕ). streamVerdict l) (empty-end h) ∙ ap (λ (x : Reading). stoppedBy (x .rest)) (read-stops [] refl)
+
+  pub pieces-end : length s ≤ at → piecesAt s at ≡ []
+  pieces-end h = ap (λ (l : List ℕ). readOf l .pieces) (empty-end h) ∙ ap (λ (x : Reading). x .pieces) (read-stops [] refl)
 
   module _ (ok : stepVerdict (drop at s) ≡ accepted) where
     pub pieces-here : piecesAt s at ≡ take (usedBy (drop at s)) (drop at s) ∷ piecesAt s (at + usedBy (drop at s))
@@ -68,11 +75,14 @@ module _ (s : List ℕ) (at : ℕ) where
     pub within-here : at + usedBy (drop at s) ≤ length s
     within-here = omega (arith, step-within (drop at s) ok, length-drop at s)
 
-    pub good-after : streamVerdict (drop at s) ≡ accepted → streamVerdict (drop (at + usedBy (drop at s)) s) ≡ accepted
-    good-after good =
+    -- what stops the reading stands after this segment
+    pub stream-after : streamVerdict (drop (at + usedBy (drop at s)) s) ≡ streamVerdict (drop at s)
+    stream-after =
         ap (λ (l : List ℕ). streamVerdict l) (sym (drop-drop (usedBy (drop at s)) at s))
         ∙ sym (ap (λ (x : Reading). stoppedBy (x .rest)) (read-on (drop at s) ok))
-        ∙ good
+
+    pub good-after : streamVerdict (drop at s) ≡ accepted → streamVerdict (drop (at + usedBy (drop at s)) s) ≡ accepted
+    good-after good = stream-after ∙ good
 
     -- the verdict of the next segment, and of those after it
     pub group-here : (g : Grouping)

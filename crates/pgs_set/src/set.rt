@@ -5,6 +5,8 @@ use crate::grouping::group_segment;
 use pgs_base::refusal::Refusal;
 use pgs_segment::header::HeaderAnswer;
 use pgs_segment::header::SegmentHeader;
+use pgs_segment::segment::FrameAnswer;
+use pgs_segment::segment::check_segment;
 use pgs_stream::stream::StreamAnswer;
 use pgs_stream::stream::count_segments;
 use pgs_views::segment_type::SegmentType;
@@ -12,9 +14,10 @@ ghost use mathlib.Core.Path.{_≡_};
 ghost use Prim.Native.Nat.{_≤_, _<_};
 ghost use mathlib.Core.List.{[]};
 ghost use lib.ListN.{length, drop};
-ghost use Rattle.pgs_base.specs.Outcome.{accepted, outcomeOf, laid, Delivered};
+ghost use Rattle.pgs_base.specs.Outcome.{accepted, refused, andThen, outcomeOf, laid, Delivered};
+ghost use Rattle.pgs_base.specs.Refusals.{numberOf};
 ghost use Rattle.pgs_segment.specs.Header.{headerFields};
-ghost use Rattle.pgs_stream.specs.Stream.{readOf, stepVerdict, streamVerdict};
+ghost use Rattle.pgs_stream.specs.Stream.{stepVerdict, streamVerdict};
 ghost use Rattle.pgs_set.specs.Sets.{
   groupVerdict,
   isEnd,
@@ -79,25 +82,43 @@ fn grouped(state: Grouping, n: usize) -> SetsAnswer
     }
 }
 
-// Groups the segments of a stream that is known to be accepted, without storing.
-fn count_sets(s: &[u8]) -> SetsAnswer
-    requires { ⌜ streamVerdict (now s) ≡ accepted ⌝ }
-    ensures { λ r. ⌜ setsOutcome r ≡ outcomeOf (groupVerdict Grouping.Outside (readOf (now (s .entry)) .pieces)) (setCount (now (s .entry))) ⌝ }
+// Why a stream is refused of which a segment is refused in grouping, with `rest` after that segment: 1 to 7 anywhere come before 8 to 15.
+fn refused_before(rest: &[u8], why: Refusal) -> SetsAnswer
+    ensures { λ r. ⌜ setsOutcome r ≡ outcomeOf (andThen (streamVerdict (now (rest .entry))) (refused (numberOf why))) 0 ⌝ }
+{
+    match count_segments(rest) {
+        StreamAnswer::Refused(first) => SetsAnswer::Refused(first),
+        StreamAnswer::Segments(_) => SetsAnswer::Refused(why),
+    }
+}
+
+// How many sets a stream has: each segment is read and grouped in one walk, since past the caches every head is a memory access. A
+// segment takes 13 bytes at least, so that 7 cannot come.
+pub fn group_display_sets(s: &[u8]) -> SetsAnswer
+    ensures { λ r. ⌜ setsOutcome r ≡ outcomeOf (setsVerdict (now (s .entry))) (setCount (now (s .entry))) ⌝ }
 {
     let mut state = Grouping::Outside;
     let mut at: usize = 0;
     let mut n: usize = 0;
     while at < s.len() {
-        let header = header_at(s, at);
-        let kind = SegmentType::from_raw(header.segment_type);
-        match group_segment(state, kind) {
-            GroupStep::Refused(why) => {
+        match check_segment(&s[at..]) {
+            FrameAnswer::Refused(why) => {
                 return SetsAnswer::Refused(why);
             }
-            GroupStep::On(next) => {
-                state = next;
-                at += 13 + header.segment_size as usize;
-                n += opened_by(kind);
+            FrameAnswer::Framed(frame) => {
+                let header = frame.header;
+                let next = at + (13 + header.segment_size as usize);
+                let kind = SegmentType::from_raw(header.segment_type);
+                match group_segment(state, kind) {
+                    GroupStep::Refused(why) => {
+                        return refused_before(&s[next..], why);
+                    }
+                    GroupStep::On(after) => {
+                        state = after;
+                        at = next;
+                        n += opened_by(kind);
+                    }
+                }
             }
         }
     }
@@ -164,16 +185,6 @@ fn fill_sets(s: &[u8], n: usize, sets: &mut [[u64; 3]])
         sets[i] = [at as u64, end as u64, header.pts as u64];
         i += 1;
         at = end;
-    }
-}
-
-// How many sets a stream has: the whole stream is read first, then its segments are grouped.
-pub fn group_display_sets(s: &[u8]) -> SetsAnswer
-    ensures { λ r. ⌜ setsOutcome r ≡ outcomeOf (setsVerdict (now (s .entry))) (setCount (now (s .entry))) ⌝ }
-{
-    match count_segments(s) {
-        StreamAnswer::Refused(why) => SetsAnswer::Refused(why),
-        StreamAnswer::Segments(_) => count_sets(s),
     }
 }
 

@@ -8,11 +8,13 @@ use borrow.Author.Tests.{lt-ltb}
 use lib.ListN.{length, take, drop, set, length-drop}
 use lib.Seq.{drop-drop, length-take-le, drop-length}
 use Rattle.pgs_base.specs.Bytes.{num}
-use Rattle.pgs_base.specs.Outcome.{Verdict, accepted, refused, isAccepted, laid}
+use Rattle.pgs_base.specs.Outcome.{Verdict, accepted, refused, Outcome, outcomeOf, isAccepted, laid}
 use Rattle.pgs_base.proofs.Bytes.{num-take}
+use Rattle.pgs_base.proofs.Lists.{to-end}
 use Rattle.pgs_base.proofs.Front.{Front, begins, stored, filled}
 use Rattle.pgs_base.proofs.Outcomes.{is-accepted, first-accepts}
-use Rattle.pgs_segment.specs.OneSegment.{segmentVerdict, usedBy}
+use Rattle.pgs_segment.specs.OneSegment.{segmentVerdict, usedBy, frameOf}
+use Rattle.pgs_segment.specs.declared.segment.Frame.{Frame}
 use Rattle.pgs_stream.specs.Stream.{Reading, stepVerdict, before, readFirst, readOf, stoppedBy, streamVerdict, segmentCount, segmentRow, rowsFrom, segmentRows}
 use Rattle.pgs_segment.proofs.SegmentLaws.{accepted-size}
 
@@ -26,6 +28,12 @@ step-accepted l e = simp (e, lt-ltb 0 (usedBy l) (omega arith))
 
 pub step-refused : (l : List ℕ) {k : ℕ} → segmentVerdict l ≡ refused k → stepVerdict l ≡ refused k
 step-refused l e = rw e
+
+-- what is lent to test a segment goes to the end of the stream
+pub frame-at : (s : List ℕ) (at : ℕ) {o : Outcome Frame}
+    → o ≡ outcomeOf (segmentVerdict (take (length s - at) (drop at s))) (frameOf (take (length s - at) (drop at s)))
+    → o ≡ outcomeOf (segmentVerdict (drop at s)) (frameOf (drop at s))
+frame-at s at e = e ∙ ap (λ (l : List ℕ). outcomeOf (segmentVerdict l) (frameOf l)) (to-end at s)
 
 -- enough fuel is enough
 same-fuel : (n m : ℕ) (l : List ℕ) → length l ≤ n → length l ≤ m → readFirst n l ≡ readFirst m l

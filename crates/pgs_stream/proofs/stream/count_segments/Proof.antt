@@ -1,10 +1,8 @@
 -- `count_segments` reads on until the end or a refusal: the loop keeps `Counting`.
 -- Assumes nothing.
-use Prim.Native.Nat.{ℕ, _+_, _-_}
-use Rattle.pgs_base.proofs.Lists.{to-end}
+use Prim.Native.Nat.{_+_, _-_}
 use Rattle.pgs_base.proofs.Outcomes.{gave, gave-value, turned-down, gives-as, refuses-as}
-use Rattle.pgs_base.specs.Outcome.{Outcome, outcomeOf}
-use Rattle.pgs_stream.proofs.StreamLaws.{step-accepted, step-refused, Counting, counting, counts-on, counted-refusal, counted-all, counted}
+use Rattle.pgs_stream.proofs.StreamLaws.{step-accepted, step-refused, frame-at, Counting, counting, counts-on, counted-refusal, counted-all, counted}
 use Rattle.pgs_stream.proofs.stream.count_segments.Statement.{statement}
 use Rattle.pgs_segment.specs.Header.{sizeOf}
 use Rattle.pgs_segment.specs.OneSegment.{segmentVerdict, frameOf, frameOutcome}
@@ -12,17 +10,10 @@ use Rattle.pgs_stream.specs.Stream.{segmentCount}
 use Rattle.pgs_segment.specs.declared.segment.Frame.{Frame}
 use borrow.Author.Needs.{needs}
 use denote.Ref.{now}
-use lib.ListN.{length, take, drop}
-use mathlib.Core.List.{List}
+use lib.ListN.{length, drop}
 use mathlib.Core.Path.{_≡_, sym, ap, _∙_}
 use native.Mathlib.Omega.{arith}
 use Rattle.pgs_stream.proofs.stream.count_segments.Tie as tie
-
--- the part that is lent goes to the end of the stream
-lent : (s : List ℕ) (at : ℕ) {o : Outcome Frame}
-    → o ≡ outcomeOf (segmentVerdict (take (length s - at) (drop at s))) (frameOf (take (length s - at) (drop at s)))
-    → o ≡ outcomeOf (segmentVerdict (drop at s)) (frameOf (drop at s))
-lent s at e = e ∙ ap (λ (l : List ℕ). outcomeOf (segmentVerdict l) (frameOf l)) (to-end at s)
 
 abbrev Inv-loop : tie.InvT-loop
 Inv-loop s at₀ n₀ at n = Counting s at n
@@ -36,7 +27,7 @@ on : (c : tie.Else1 Inv-loop μ-loop)
 on c =
     let s = now (c .before .before .before .before .before .before .before .before .before .before .before .args .s) in
     let l = drop (c .before .before .before .before .before .before .before .before .before .loop .at) s in
-    let e = (lent (now (c .before .before .before .before .before .before .before .before .before .before .before .args .s)) (c .before .before .before .before .before .before .before .before .before .loop .at) (sym (ap frameOutcome (c .before .before .before .before .frame .given .1)) ∙ c .before .before .before .before .before .before .check-segment .ensures)) in
+    let e = (frame-at (now (c .before .before .before .before .before .before .before .before .before .before .before .args .s)) (c .before .before .before .before .before .before .before .before .before .loop .at) (sym (ap frameOutcome (c .before .before .before .before .frame .given .1)) ∙ c .before .before .before .before .before .before .check-segment .ensures)) in
     let size : c .before .before .before .before .frame .given .0 .0 .header .«segment_size» ≡ sizeOf l
     = ap (λ (f : Frame). f .header .«segment_size») (gave-value (segmentVerdict l) (frameOf l) e) in
     rw size (counts-on s (c .before .before .before .before .before .before .before .before .before .loop .inv) (step-accepted l (gave (segmentVerdict l) (frameOf l) e)))
@@ -60,7 +51,7 @@ enum-known-why : tie.Need-enum-known-why Inv-loop μ-loop
 enum-known-why c = search needs
 
 returns : tie.Need-returns Inv-loop μ-loop
-returns c = let s = now (c .before .before .before .before .before .before .before .before .args .s) in let l = drop (c .before .before .before .before .before .before .loop .at) s in refuses-as (segmentCount s) (counted-refusal s (c .before .before .before .before .before .before .loop .inv) (c .before .before .before .before .before .loop-test .taken) (step-refused l (turned-down (segmentVerdict l) (frameOf l) (lent (now (c .before .before .before .before .before .before .before .before .args .s)) (c .before .before .before .before .before .before .loop .at) (sym (ap frameOutcome (c .before .why .given .1)) ∙ c .before .before .before .check-segment .ensures)))))
+returns c = let s = now (c .before .before .before .before .before .before .before .before .args .s) in let l = drop (c .before .before .before .before .before .before .loop .at) s in refuses-as (segmentCount s) (counted-refusal s (c .before .before .before .before .before .before .loop .inv) (c .before .before .before .before .before .loop-test .taken) (step-refused l (turned-down (segmentVerdict l) (frameOf l) (frame-at (now (c .before .before .before .before .before .before .before .before .args .s)) (c .before .before .before .before .before .before .loop .at) (sym (ap frameOutcome (c .before .why .given .1)) ∙ c .before .before .before .check-segment .ensures)))))
 
 enum-known-frame : tie.Need-enum-known-frame Inv-loop μ-loop
 enum-known-frame c = search needs
