@@ -1,6 +1,2 @@
 pub mod Sums
 pub mod Bytes
-pub mod Exact
-pub mod Accuracy
-pub mod Palette
-pub mod Table

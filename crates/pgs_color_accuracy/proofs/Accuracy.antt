@@ -13,13 +13,13 @@ use lib.Ieee.{Float, nan, inf, fin, binary32, up, down, round, add, sub, toUnsig
 use lib.Ieee.Fits.{down-pos}
 use lib.Ieee.Nearest.{div-same}
 use Rattle.pgs_base.specs.Outcome.{pick}
 use Rattle.pgs_color.specs.Bytes.{half, byteOf, rgbOf}
-use Rattle.pgs_color.specs.Exact.{decimals, exactLuma, exactChroma}
-use Rattle.pgs_color.specs.Accuracy.{clamped, Within, tolerance, Accurate}
+use Rattle.pgs_color_accuracy.specs.Exact.{decimals, exactLuma, exactChroma}
+use Rattle.pgs_color_accuracy.specs.Accuracy.{clamped, Within, tolerance, Accurate}
 use Rattle.pgs_color.proofs.Clamping.{zero-test, top-test, zero-test-neg}
-use Rattle.pgs_color.proofs.Difference as Difference
-use Rattle.pgs_color.proofs.Grid.{At, own-place, add-at, sub-at}
-use Rattle.pgs_color.proofs.Terms.{scale, Term, luma-term, red-cr, green-cb, green-cr, blue-cb}
+use Rattle.pgs_color_accuracy.proofs.Difference as Difference
+use Rattle.pgs_color_accuracy.proofs.Grid.{At, own-place, add-at, sub-at}
+use Rattle.pgs_color_accuracy.proofs.Terms.{scale, Term, luma-term, red-cr, green-cb, green-cr, blue-cb}
 
 -- ---- the byte of a float at a place
 

@@ -7,7 +7,7 @@ use Prim.Native.Nat.{ℕ, _<_, _≤_}
 use borrow.Author.Tests.{le-leb, lt-leb}
 use lib.ListN.{length}
 use Rattle.pgs_base.specs.Outcome.{accepted, refused, unless, gives, refuses, outcomeOf, pick}
-use Rattle.pgs_color.specs.Table.{holds, Updates}
+use Rattle.pgs_palette.specs.Table.{holds, Updates}
 
 pub short : (change : List ℕ → List ℕ) (t : List ℕ) → length t < 1024 → Updates change (refused 34) t t
 short change t h = record { verdict = ap (unless 34) (sym (lt-leb 1024 (length t) h)); table = ap (λ (b : Bool). pick b (change t) t) (sym (lt-leb 1024 (length t) h)) }

@@ -1,11 +1,11 @@
 -- `apply` refuses a short table, leaves it where the palette is another, and lays the entries over it where it is the named one.
 -- Assumes nothing.
-use Rattle.pgs_color.proofs.Calls.{short, done}
-use Rattle.pgs_color.proofs.Laying.{laid-other, laid-named}
+use Rattle.pgs_palette.proofs.Calls.{short, done}
+use Rattle.pgs_palette.proofs.Laying.{laid-other, laid-named}
 use Rattle.pgs_color.specs.Bytes.{rgbOf}
 use borrow.Author.Needs.{needs}
-use Rattle.pgs_color.proofs.palette.apply.Statement.{statement}
-use Rattle.pgs_color.proofs.palette.apply.Tie as tie
+use Rattle.pgs_palette.proofs.palette.apply.Statement.{statement}
+use Rattle.pgs_palette.proofs.palette.apply.Tie as tie
 
 returns : tie.Need-returns
 returns c = short _ _ (c .if1 .taken)

@@ -8,7 +8,7 @@ use native.Mathlib.Nat.{mul-add}
 use native.Mathlib.Omega.{arith}
 use lib.Dec.{T, ltb, ltb→lt, nltb→le}
 use lib.IntN.{ℤ, pos, negsuc, negℤ, subℕ, _+ℤ_, _-ℤ_, _*ℤ_, pos-*ℤ-negsuc}
-use Rattle.pgs_color.specs.Accuracy.{clamped}
+use Rattle.pgs_color_accuracy.specs.Accuracy.{clamped}
 
 -- z + b is a
 abbrev Sums : ℤ → ℕ → ℕ → Type 0

@@ -5,12 +5,12 @@ use mathlib.Core.Path.{_≡_, refl, ap, _∙_}
 use mathlib.Core.List.{List, map}
 use native.Mathlib.Omega.{arith}
 use lib.ListN.{length, drop}
 use Rattle.pgs_color.specs.Bytes.{rgbOf}
-use Rattle.pgs_color.specs.Palette.{entryOf}
-use Rattle.pgs_color.specs.Table.{laid}
-use Rattle.pgs_color.proofs.Laying.{laid-next, laid-end}
-use Rattle.pgs_color.proofs.palette.lay.Statement.{statement}
-use Rattle.pgs_color.proofs.palette.lay.Tie as tie
+use Rattle.pgs_palette.specs.Palette.{entryOf}
+use Rattle.pgs_palette.specs.Table.{laid}
+use Rattle.pgs_palette.proofs.Laying.{laid-next, laid-end}
+use Rattle.pgs_palette.proofs.palette.lay.Statement.{statement}
+use Rattle.pgs_palette.proofs.palette.lay.Tie as tie
 
 abbrev Inv-loop : tie.InvT-loop
 Inv-loop entries table₀ k₀ table k =

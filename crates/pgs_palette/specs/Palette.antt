@@ -6,8 +6,8 @@ use Prim.Native.Nat.{ℕ}
 use lib.Dec.{eqb}
 use lib.ListN.{getD}
 use Rattle.pgs_base.specs.Outcome.{pick}
 use Rattle.pgs_color.specs.declared.ycbcr.Rgb8.{Rgb8}
-use Rattle.pgs_color.specs.declared.palette.Rgba8.{Rgba8}
+use Rattle.pgs_palette.specs.declared.palette.Rgba8.{Rgba8}
 
 -- a palette entry. 01, module 3: "entries: id, Y, Cr, Cb, alpha, 1 each"
 pub record Entry : Type 0 where

@@ -3,10 +3,10 @@
 use borrow.Author.Needs.{needs}
 use mathlib.Core.Path.{_∙_}
 use Rattle.pgs_base.specs.Outcome.{gives}
-use Rattle.pgs_color.specs.Table.{pixelAt}
-use Rattle.pgs_color.proofs.Calls.{short-look, done-look}
-use Rattle.pgs_color.proofs.palette.get.Statement.{statement}
-use Rattle.pgs_color.proofs.palette.get.Tie as tie
+use Rattle.pgs_palette.specs.Table.{pixelAt}
+use Rattle.pgs_palette.proofs.Calls.{short-look, done-look}
+use Rattle.pgs_palette.proofs.palette.get.Statement.{statement}
+use Rattle.pgs_palette.proofs.palette.get.Tie as tie
 
 returns : tie.Need-returns
 returns c =

@@ -6,10 +6,10 @@ use mathlib.Core.List.{List, _++_}
 use native.Mathlib.Omega.{arith}
 use lib.ListN.{length, drop, set, replicate, length-set}
 use borrow.Author.Fill.{fill-more}
-use Rattle.pgs_color.proofs.Calls.{short, done}
-use Rattle.pgs_color.proofs.Laying.{cleared-end}
-use Rattle.pgs_color.proofs.palette.clear.Statement.{statement}
-use Rattle.pgs_color.proofs.palette.clear.Tie as tie
+use Rattle.pgs_palette.proofs.Calls.{short, done}
+use Rattle.pgs_palette.proofs.Laying.{cleared-end}
+use Rattle.pgs_palette.proofs.palette.clear.Statement.{statement}
+use Rattle.pgs_palette.proofs.palette.clear.Tie as tie
 
 abbrev Inv-loop : tie.InvT-loop
 Inv-loop table₀ i₀ table i = (i ≤ 1024) × (1024 ≤ length table₀) × (length table ≡ length table₀) × (table ≡ replicate i 0 ++ drop i table₀)

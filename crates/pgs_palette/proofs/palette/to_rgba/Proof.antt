@@ -2,8 +2,8 @@
 -- Assumes nothing.
 use lib.ListN.{getD}
 use borrow.Author.Needs.{needs}
-use Rattle.pgs_color.proofs.palette.to_rgba.Statement.{statement}
-use Rattle.pgs_color.proofs.palette.to_rgba.Tie as tie
+use Rattle.pgs_palette.proofs.palette.to_rgba.Statement.{statement}
+use Rattle.pgs_palette.proofs.palette.to_rgba.Tie as tie
 
 array-read-ycbcr709-to-rgb : tie.Need-array-read-ycbcr709-to-rgb
 array-read-ycbcr709-to-rgb c = search needs

@@ -6,13 +6,13 @@ use native.Mathlib.Omega.{arith}
 use lib.ListN.{length-set}
 use lib.Seq.{sets}
 use denote.Ref.{now}
 use Rattle.pgs_color.specs.Bytes.{rgbOf}
-use Rattle.pgs_color.specs.Palette.{entryOf}
-use Rattle.pgs_color.specs.Table.{pixelOf}
-use Rattle.pgs_color.proofs.Laying.{stored-pixel, laid-one}
+use Rattle.pgs_palette.specs.Palette.{entryOf}
+use Rattle.pgs_palette.specs.Table.{pixelOf}
+use Rattle.pgs_palette.proofs.Laying.{stored-pixel, laid-one}
 use borrow.Author.Needs.{needs}
-use Rattle.pgs_color.proofs.palette.put.Statement.{statement}
-use Rattle.pgs_color.proofs.palette.put.Tie as tie
+use Rattle.pgs_palette.proofs.palette.put.Statement.{statement}
+use Rattle.pgs_palette.proofs.palette.put.Tie as tie
 
 array-read-wide : tie.Need-array-read-wide
 array-read-wide c = search needs

@@ -1,8 +1,8 @@
 -- The accuracy rule. 01, 'Colour': "Each byte lies within 1/2 + 1/1000 of the exact value (same decimals, no rounding) clamped to 0..255."
 use Prim.Native.Nat.{ℕ, _+_, _*_, _≤_, _<_, min}
 use lib.IntN.{ℤ, pos, negsuc}
-use Rattle.pgs_color.specs.Exact.{Decimals, decimals, scaleOf, exactRed, exactGreen, exactBlue}
+use Rattle.pgs_color_accuracy.specs.Exact.{Decimals, decimals, scaleOf, exactRed, exactGreen, exactBlue}
 use Rattle.pgs_color.specs.declared.ycbcr.Rgb8.{Rgb8}
 
 -- z over the scale s, clamped to 0..255
 abbrev pub clamped : ℕ → ℤ → ℕ

@@ -1,14 +1,14 @@
 // The palette that painting looks colours up in: a lent table of 1,024 bytes, R, G, B and alpha for each of the 256 indices.
-use crate::ycbcr::ycbcr709_to_rgb;
 use pgs_base::refusal::Refusal;
+use pgs_color::ycbcr::ycbcr709_to_rgb;
 ghost use mathlib.Core.Path.{_≡_};
 ghost use mathlib.Core.List.{[], _∷_, map};
 ghost use Prim.Native.Nat.{_≤_, _<_};
 ghost use lib.ListN.{length};
 ghost use Rattle.pgs_base.specs.Outcome.{unless, outcomeOf};
 ghost use Rattle.pgs_color.specs.Bytes.{rgbOf};
-ghost use Rattle.pgs_color.specs.Palette.{entryOf, applying, colorOf};
-ghost use Rattle.pgs_color.specs.Table.{laid, cleared, pixelAt, holds, updateOf, lookOf, Updates};
+ghost use Rattle.pgs_palette.specs.Palette.{entryOf, applying, colorOf};
+ghost use Rattle.pgs_palette.specs.Table.{laid, cleared, pixelAt, holds, updateOf, lookOf, Updates};
 
 // A colour with its alpha, which is not multiplied in.
 pub struct Rgba8 {

@@ -13,9 +13,9 @@ use lib.Dec.{eqb, lit<}
 use lib.ListN.{length, getD, take, drop, set, replicate, length-append, length-drop, length-replicate, take-append-drop, getD-replicate, List·getD-append, drop-of-length-le}
 use lib.Seq.{sets, sets-eq, take-at, drop-at, length-take-le, take-set-le, drop-set-add, getD-append-add, getD-take, drop-cons}
 use Rattle.pgs_base.specs.Outcome.{pick}
-use Rattle.pgs_color.specs.Palette.{Entry, entryOf, applying, orElse, lookup, Conversion, colorOf, colorAt, entryOr, transparent}
-use Rattle.pgs_color.specs.Table.{pixelOf, pixelOver, laidFrom, laid, cleared, pixelAt}
-use Rattle.pgs_color.specs.declared.palette.Rgba8.{Rgba8}
+use Rattle.pgs_palette.specs.Palette.{Entry, entryOf, applying, orElse, lookup, Conversion, colorOf, colorAt, entryOr, transparent}
+use Rattle.pgs_palette.specs.Table.{pixelOf, pixelOver, laidFrom, laid, cleared, pixelAt}
+use Rattle.pgs_palette.specs.declared.palette.Rgba8.{Rgba8}
 
 -- ---- a run of stores, seen from the front of a list
 

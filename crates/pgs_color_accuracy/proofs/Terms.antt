@@ -11,9 +11,9 @@ use lib.Dec.{T, leb, eqb, leb→le, eqb→eq}
 use lib.IntN.{ℤ}
 use lib.Ieee.{Float, nan, inf, fin, up, down, sub, mul, div, ofInt}
 use lib.Ieee.Fits.{and-l, and-r}
 use Rattle.pgs_color.specs.Sums.{decimal, luma, chroma}
-use Rattle.pgs_color.specs.Exact.{decimals, scaleOf}
-use Rattle.pgs_color.proofs.Grid.{Place, At}
+use Rattle.pgs_color_accuracy.specs.Exact.{decimals, scaleOf}
+use Rattle.pgs_color_accuracy.proofs.Grid.{Place, At}
 
 -- ---- a test at every number below n
 

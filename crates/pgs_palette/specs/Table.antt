@@ -8,12 +8,12 @@ use lib.Dec.{leb}
 use lib.ListN.{length, getD, take, drop, replicate}
 use Rattle.pgs_base.specs.Refusals.{numberOf}
 use Rattle.pgs_base.specs.Outcome.{Verdict, accepted, refused, unless, Outcome, gives, refuses, pick}
-use Rattle.pgs_color.specs.Palette.{Entry, lookup, Conversion, colorOf, entryOr}
-use Rattle.pgs_color.specs.declared.palette.Rgba8.{Rgba8}
-use Rattle.pgs_color.specs.declared.palette.Updated.{Updated}
-use Rattle.pgs_color.specs.declared.palette.Updated.the-variants.{Done, Refused}
-use Rattle.pgs_color.specs.declared.palette.Looked.{Looked}
-use Rattle.pgs_color.specs.declared.palette.Looked.the-variants as Looks
+use Rattle.pgs_palette.specs.Palette.{Entry, lookup, Conversion, colorOf, entryOr}
+use Rattle.pgs_palette.specs.declared.palette.Rgba8.{Rgba8}
+use Rattle.pgs_palette.specs.declared.palette.Updated.{Updated}
+use Rattle.pgs_palette.specs.declared.palette.Updated.the-variants.{Done, Refused}
+use Rattle.pgs_palette.specs.declared.palette.Looked.{Looked}
+use Rattle.pgs_palette.specs.declared.palette.Looked.the-variants as Looks
 
 -- 01, 'Plane': "Pixels are R, G, B, alpha"
 abbrev pub pixelOf : Rgba8 → List ℕ

@@ -1,0 +1,4 @@
+pub mod Difference
+pub mod Grid
+pub mod Terms
+pub mod Accuracy

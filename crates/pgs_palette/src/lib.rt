@@ -1,0 +1,2 @@
+// The palette that painting looks colours up in.
+pub mod palette;
