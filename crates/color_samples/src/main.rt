@@ -1,7 +1,7 @@
 // Prints the colours of a few Y, Cb and Cr, and of palettes, for rt to compare with the file stdout.
 use libc::STDOUT_FILENO;
-use pgs_color::palette::Looked;
-use pgs_color::palette::Updated;
+use pgs_palette::palette::Looked;
+use pgs_palette::palette::Updated;
 
 fn print_space() {
     io::write_all(STDOUT_FILENO, b" ");
@@ -47,7 +47,7 @@ fn print_index(table: &[u8], index: u8) {
     io::write_all(STDOUT_FILENO, b"index ");
     print_decimal(index);
     io::write_all(STDOUT_FILENO, b": ");
-    match pgs_color::palette::get(table, index) {
+    match pgs_palette::palette::get(table, index) {
         Looked::Color(c) => {
             print_hex(c.r);
             print_space();
@@ -86,15 +86,15 @@ fn print_colors() {
 // A palette under id 0, which the PCS names; the table starts without an entry.
 fn print_palette() {
     let mut table = [255u8; 1024];
-    print_update(pgs_color::palette::clear(&mut table));
+    print_update(pgs_palette::palette::clear(&mut table));
     print_index(&table, 1);
     // entries are id, Y, Cr, Cb, alpha
     let first = [[1u8, 0x51, 0xf0, 0x5a, 0xff]];
-    print_update(pgs_color::palette::apply(&first, 0, 0, &mut table));
+    print_update(pgs_palette::palette::apply(&first, 0, 0, &mut table));
     print_index(&table, 1);
     // another palette does not apply
     let other = [[1u8, 0x10, 0x80, 0x80, 0xff]];
-    print_update(pgs_color::palette::apply(&other, 5, 0, &mut table));
+    print_update(pgs_palette::palette::apply(&other, 5, 0, &mut table));
     print_index(&table, 1);
     // a later segment's entry wins, and of two with one id the later; alpha 0 keeps the colour
     let later = [
@@ -102,7 +102,7 @@ fn print_palette() {
         [1u8, 0x51, 0xf0, 0x5a, 0x00],
         [3u8, 0xeb, 0x80, 0x80, 0x80],
     ];
-    print_update(pgs_color::palette::apply(&later, 0, 0, &mut table));
+    print_update(pgs_palette::palette::apply(&later, 0, 0, &mut table));
     print_index(&table, 1);
     print_index(&table, 2);
     print_index(&table, 3);
@@ -111,7 +111,7 @@ fn print_palette() {
 // A table that is one byte short.
 fn print_short() {
     let mut table = [255u8; 1023];
-    print_update(pgs_color::palette::clear(&mut table));
+    print_update(pgs_palette::palette::clear(&mut table));
     print_index(&table, 1);
 }
 

@@ -7,7 +7,7 @@ use Rattle.pgs_base.specs.Outcome.{unless, pick, laid}
 use Rattle.pgs_bitmap.specs.Bitmap.{bitmapOf}
 use Rattle.pgs_bitmap.specs.Decoding.{decodeVerdict}
 use Rattle.pgs_calls.specs.Calls.{codeOf}
-use Rattle.pgs_color.specs.Table.{holds}
+use Rattle.pgs_palette.specs.Table.{holds}
 use Rattle.pgs_color.specs.declared.ycbcr.Rgb8.{Rgb8}
 
 -- a bitmap: its pixels

@@ -1,13 +1,13 @@
 // Colours and palettes.
-use pgs_color::palette::Updated;
-use pgs_color::palette::apply;
-use pgs_color::palette::clear;
 use pgs_color::ycbcr::ycbcr709_to_rgb;
+use pgs_palette::palette::Updated;
+use pgs_palette::palette::apply;
+use pgs_palette::palette::clear;
 ghost use mathlib.Core.Path.{_≡_};
 ghost use mathlib.Core.List.{map};
 ghost use Rattle.pgs_color.specs.Bytes.{rgbOf};
-ghost use Rattle.pgs_color.specs.Palette.{applying, entryOf};
-ghost use Rattle.pgs_color.specs.Table.{cleared, laid};
+ghost use Rattle.pgs_palette.specs.Palette.{applying, entryOf};
+ghost use Rattle.pgs_palette.specs.Table.{cleared, laid};
 ghost use Rattle.pgs_c_pixels.specs.Pixels.{packed, TableCall};
 
 // The colour of Y, Cb and Cr as R·65536 + G·256 + B.

@@ -7,7 +7,7 @@ use lib.Dec.{eqb}
 use lib.ListN.{length, getD}
 use Rattle.pgs_base.specs.Outcome.{Verdict, Outcome, andThen, needing, isAccepted, laid, outcomeOf, pick}
 use Rattle.pgs_bitmap.specs.Bitmap.{readingOf, bitmapOf}
-use Rattle.pgs_color.specs.Palette.{Conversion}
+use Rattle.pgs_palette.specs.Palette.{Conversion}
 use Rattle.pgs_plane.specs.Placing.{imageOf}
 use Rattle.pgs_object.specs.Objects.{Fragment, Chain, objectId, widthOf, heightOf, objectsOf, objectsVerdict}
 use Rattle.pgs_set.specs.Sets.{setNumber, noSet, DisplaySet}

@@ -9,9 +9,9 @@ use borrow.Author.Tests.{leb-true, leb-false}
 use lib.Dec.{leb}
 use lib.ListN.{length, getD, List·getD-eq-default}
 use Rattle.pgs_color.specs.Bytes.{rgbOf}
-use Rattle.pgs_color.specs.Palette.{Entry, lookup, colorOf, entryOr, transparent}
-use Rattle.pgs_color.specs.Table.{laid, cleared, pixelOf}
-use Rattle.pgs_color.proofs.Laying.{shown, laid-length, cleared-length}
+use Rattle.pgs_palette.specs.Palette.{Entry, lookup, colorOf, entryOr, transparent}
+use Rattle.pgs_palette.specs.Table.{laid, cleared, pixelOf}
+use Rattle.pgs_palette.proofs.Laying.{shown, laid-length, cleared-length}
 use Rattle.pgs_plane.specs.Placing.{tableColor}
 use Rattle.pgs_render.specs.Palettes.{colorShown}
 

@@ -11,8 +11,8 @@ use lib.ListN.{length, take, drop}
 use Rattle.pgs_base.specs.Bytes.{big, num, Bytes}
 use Rattle.pgs_base.specs.Outcome.{isAccepted, pick}
 use Rattle.pgs_base.proofs.Digits.{bytes-take, bytes-drop}
-use Rattle.pgs_color.specs.Palette.{entryOf, lookup, orElse}
-use Rattle.pgs_color.proofs.Laying.{lookup-append}
+use Rattle.pgs_palette.specs.Palette.{entryOf, lookup, orElse}
+use Rattle.pgs_palette.proofs.Laying.{lookup-append}
 use Rattle.pgs_segment.specs.Header.{sizeOf}
 use Rattle.pgs_segment.specs.OneSegment.{segmentType, usedBy, bodyAt}
 use Rattle.pgs_segment.specs.PdsBody as pds

@@ -26,9 +26,9 @@ use Rattle.pgs_segment.specs.declared.header.SegmentHeader.{SegmentHeader}
 use Rattle.pgs_stream.proofs.ReadingLaws.{own-body}
 use Rattle.pgs_segment.proofs.SegmentLaws.{accepted-body}
 use Rattle.pgs_color.specs.Bytes.{rgbOf}
-use Rattle.pgs_color.specs.Palette.{Entry, entryOf, applying}
-use Rattle.pgs_color.specs.Table.{laid, Updates}
-use Rattle.pgs_color.proofs.Laying.{laid-none, laid-length, laid-append, laid-named}
+use Rattle.pgs_palette.specs.Palette.{Entry, entryOf, applying}
+use Rattle.pgs_palette.specs.Table.{laid, Updates}
+use Rattle.pgs_palette.proofs.Laying.{laid-none, laid-length, laid-append, laid-named}
 use Rattle.pgs_set.specs.Sets.{isEnd, throughEnd}
 use Rattle.pgs_set.specs.Walks.{InSet, piecesAt}
 use Rattle.pgs_set.proofs.SetLaws.{kind-read, size-read, inside-more, inside-here, inside-on}

@@ -15,8 +15,8 @@ use Rattle.pgs_base.proofs.Outcomes.{first-accepts, second-holds}
 use Rattle.pgs_bitmap.specs.Bitmap.{readingOf, bitmapOf}
 use Rattle.pgs_bitmap.proofs.BitmapArea.{bitmap-area}
 use Rattle.pgs_color.specs.Bytes.{rgbOf}
-use Rattle.pgs_color.specs.Table as table
-use Rattle.pgs_color.specs.Palette.{Conversion, Entry}
+use Rattle.pgs_palette.specs.Table as table
+use Rattle.pgs_palette.specs.Palette.{Conversion, Entry}
 use Rattle.pgs_plane.specs.Calls.{Clears}
 use Rattle.pgs_plane.specs.Pictures.{Picture, planeOf, colorOver, transparent, indexOf, coveringAt, planeShown, cleared, paintedAll}
 use Rattle.pgs_plane.specs.Placing.{Image, tableColor}

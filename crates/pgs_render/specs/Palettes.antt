@@ -8,8 +8,8 @@ use Rattle.pgs_views.specs.declared.«segment_type».SegmentType.{SegmentType}
 use Rattle.pgs_views.specs.declared.«segment_type».SegmentType.the-variants.{Pds, Ods, Pcs, Wds, End, Other}
 use Rattle.pgs_segment.specs.OneSegment.{segmentType, bodyAt}
 use Rattle.pgs_segment.specs.PdsBody.{entryRows, pdsOf}
-use Rattle.pgs_color.specs.Palette.{Entry, entryOf, applying, Conversion, colorAt}
-use Rattle.pgs_color.specs.Table.{pixelOf}
+use Rattle.pgs_palette.specs.Palette.{Entry, entryOf, applying, Conversion, colorAt}
+use Rattle.pgs_palette.specs.Table.{pixelOf}
 
 abbrev pub isPds : SegmentType → Bool
 isPds Pds = true

@@ -7,7 +7,7 @@ use Prim.Native.Nat.{ℕ, _+_, _*_}
 use lib.ListN.{length}
 use Rattle.pgs_base.specs.Outcome.{Verdict, Outcome, gives, refuses, andThen, needing, isAccepted, laid, outcomeOf, pick}
 use Rattle.pgs_base.specs.Refusals.{numberOf}
-use Rattle.pgs_color.specs.Palette.{Conversion}
+use Rattle.pgs_palette.specs.Palette.{Conversion}
 use Rattle.pgs_plane.specs.Pictures.{planeShown}
 use Rattle.pgs_plane.specs.Placing.{Image}
 use Rattle.pgs_segment.specs.Header.{ptsOf}

@@ -1,6 +1,6 @@
 // The palette of a display set, as a table of colours: 01, 'Plane'.
-use pgs_color::palette::apply;
-use pgs_color::palette::clear;
+use pgs_palette::palette::apply;
+use pgs_palette::palette::clear;
 use pgs_segment::header::HeaderAnswer;
 use pgs_segment::header::SegmentHeader;
 use pgs_set::set::is_end;
@@ -12,7 +12,7 @@ ghost use lib.ListN.{length, getD};
 ghost use Rattle.pgs_base.specs.Outcome.{accepted};
 ghost use Rattle.pgs_segment.specs.PdsBody.{pdsVerdict};
 ghost use Rattle.pgs_color.specs.Bytes.{rgbOf};
-ghost use Rattle.pgs_color.specs.Table.{laid, cleared};
+ghost use Rattle.pgs_palette.specs.Table.{laid, cleared};
 ghost use Rattle.pgs_set.specs.Sets.{throughEnd};
 ghost use Rattle.pgs_set.specs.Walks.{InSet, piecesAt};
 ghost use Rattle.pgs_render.specs.Palettes.{isPds, entriesNamed, entriesAmong};

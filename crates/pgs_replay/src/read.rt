@@ -6,11 +6,11 @@ use pgs_cards::cards::CardsAnswer;
 use pgs_cards::cards::write_cards;
 use pgs_cells::ods::ods_cells;
 use pgs_cells::pcs::pcs_cells;
-use pgs_color::palette::Looked;
-use pgs_color::palette::Updated;
 use pgs_color::ycbcr::ycbcr709_to_rgb;
 use pgs_object::object::ObjectsAnswer;
 use pgs_object::object::reassemble_objects;
+use pgs_palette::palette::Looked;
+use pgs_palette::palette::Updated;
 use pgs_render::render::RenderAnswer;
 use pgs_render::render::render;
 use pgs_segment::ods::Ods;
@@ -105,7 +105,7 @@ fn print_update(update: Updated) {
 }
 
 fn print_index(table: &[u8], index: u8) {
-    match pgs_color::palette::get(table, index) {
+    match pgs_palette::palette::get(table, index) {
         Looked::Color(c) => {
             print::next();
             print::number(c.r as u64);
@@ -124,13 +124,13 @@ fn lay(entries: &[[u8; 5]], n: usize, id: u8, named: u8, table: &mut [u8]) {
     if entries.len() < n {
         return;
     }
-    print_update(pgs_color::palette::apply(&entries[..n], id, named, table));
+    print_update(pgs_palette::palette::apply(&entries[..n], id, named, table));
 }
 
 // The colours of indices 0 to 3 where the first n entries are laid over a cleared table.
 fn print_colors(entries: &[[u8; 5]], n: usize, id: u8, named: u8) {
     let mut table = [9u8; 1024];
-    print_update(pgs_color::palette::clear(&mut table));
+    print_update(pgs_palette::palette::clear(&mut table));
     lay(entries, n, id, named, &mut table);
     print_index(&table, 0);
     print_index(&table, 1);

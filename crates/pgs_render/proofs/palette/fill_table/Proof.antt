@@ -8,8 +8,8 @@ use denote.Ref.{now}
 use lib.ListN.{length}
 use Rattle.pgs_segment.specs.Header.{headerOutcome}
 use Rattle.pgs_color.specs.Bytes.{rgbOf}
-use Rattle.pgs_color.specs.Table.{laid}
-use Rattle.pgs_color.proofs.Laying.{cleared-length}
+use Rattle.pgs_palette.specs.Table.{laid}
+use Rattle.pgs_palette.proofs.Laying.{cleared-length}
 use Rattle.pgs_render.proofs.PaletteLaws.{changed, head-of, entriesLeft, Tabling, tabling, tables-more, tables-head, tables-within, tabled, tables-other, tables-body, tables-pds}
 use Rattle.pgs_render.proofs.palette.fill_table.Statement.{statement}
 use Rattle.pgs_render.proofs.palette.fill_table.Tie as tie

@@ -2,7 +2,7 @@
 -- Assumes nothing.
 use Rattle.pgs_base.specs.Bytes.{num}
 use Prim.Native.Nat.{_/_}
-use Rattle.pgs_color.proofs.Laying.{laid-other}
+use Rattle.pgs_palette.proofs.Laying.{laid-other}
 use Rattle.pgs_render.specs.Palettes.{entriesIn}
 use Prim.Native.Nat.{_-_}
 use mathlib.Core.Path.{refl, _∙_}
