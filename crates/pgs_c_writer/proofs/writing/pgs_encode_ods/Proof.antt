@@ -1,7 +1,7 @@
 -- `pgs_encode_ods` tests the cells, and passes the writer's answer on.
 -- Assumes nothing.
 use borrow.Author.Needs.{needs}
-use Rattle.pgs_c_writer.proofs.WriteCalls.{told-call, cells-call, by-cells}
+use Rattle.pgs_c_told.proofs.WriteCalls.{told-call, cells-call, by-cells}
 use Rattle.pgs_cells.specs.OdsCells.{odsFrom, odsCellsFit, odsNumbersOutcome}
 use Rattle.pgs_c_writer.specs.Writing.{odsCellsWritable}
 use Rattle.pgs_encoding.specs.Writable.{writable}

@@ -1,7 +1,7 @@
 -- `pgs_encode_other` passes the writer's answer on.
 -- Assumes nothing.
 use borrow.Author.Needs.{needs}
-use Rattle.pgs_c_writer.proofs.WriteCalls.{told-call}
+use Rattle.pgs_c_told.proofs.WriteCalls.{told-call}
 use Rattle.pgs_encoding.specs.Writable.{writable}
 use Rattle.pgs_writer_base.specs.Kinds.{otherSegment}
 use denote.Ref.{now}

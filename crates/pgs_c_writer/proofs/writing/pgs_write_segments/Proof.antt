@@ -1,7 +1,7 @@
 -- `pgs_write_segments` passes the layer's answer on.
 -- Assumes nothing.
 use borrow.Author.Needs.{needs}
-use Rattle.pgs_c_writer.proofs.WriteCalls.{writes-refused, writes-accepted}
+use Rattle.pgs_c_writer.proofs.StreamCalls.{writes-refused, writes-accepted}
 use Rattle.pgs_stream_writer.specs.StreamWrites.{writesOutcome}
 use denote.Ref.{now}
 use mathlib.Core.Path.{ap}

@@ -1,13 +1,13 @@
 -- `pgs_encode_pds` passes the writer's answer on.
 -- Assumes nothing.
 use borrow.Author.Needs.{needs}
-use Rattle.pgs_c_writer.proofs.WriteCalls.{told-call}
+use Rattle.pgs_c_told.proofs.WriteCalls.{told-call}
 use Rattle.pgs_cells.specs.PdsCells.{pdsFrom}
 use Rattle.pgs_encoding.specs.Writable.{writable}
 use Rattle.pgs_writer_base.specs.Kinds.{pdsSegment}
 use denote.Ref.{now}
-use Rattle.pgs_c_writer.proofs.writing.pgs_encode_pds.Statement.{statement}
-use Rattle.pgs_c_writer.proofs.writing.pgs_encode_pds.Tie as tie
+use Rattle.pgs_c_writer_lists.proofs.lists.pgs_encode_pds.Statement.{statement}
+use Rattle.pgs_c_writer_lists.proofs.lists.pgs_encode_pds.Tie as tie
 
 pds-from-requires : tie.Need-pds-from-requires
 pds-from-requires c κs = search needs

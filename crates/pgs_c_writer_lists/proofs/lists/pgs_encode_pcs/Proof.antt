@@ -1,15 +1,15 @@
 -- `pgs_encode_pcs` tests the cells, and passes the writer's answer on.
 -- Assumes nothing.
 use borrow.Author.Needs.{needs}
-use Rattle.pgs_c_writer.proofs.WriteCalls.{told-call, cells-call, by-cells}
+use Rattle.pgs_c_told.proofs.WriteCalls.{told-call, cells-call, by-cells}
 use Rattle.pgs_cells.specs.PcsCells.{pcsFrom, pcsCellsFit, pcsNumbersOutcome}
-use Rattle.pgs_c_writer.specs.Writing.{pcsCellsWritable}
+use Rattle.pgs_c_writer_lists.specs.Lists.{pcsCellsWritable}
 use Rattle.pgs_segment.specs.declared.pcs.Pcs.{Pcs}
 use Rattle.pgs_writer_base.specs.Kinds.{pcsSegment, pcsRowsWritable}
 use denote.Ref.{now}
 use mathlib.Core.Path.{sym, ap, _∙_}
-use Rattle.pgs_c_writer.proofs.writing.pgs_encode_pcs.Statement.{statement}
-use Rattle.pgs_c_writer.proofs.writing.pgs_encode_pcs.Tie as tie
+use Rattle.pgs_c_writer_lists.proofs.lists.pgs_encode_pcs.Statement.{statement}
+use Rattle.pgs_c_writer_lists.proofs.lists.pgs_encode_pcs.Tie as tie
 
 pcs-from-requires : tie.Need-pcs-from-requires
 pcs-from-requires c κs = search needs

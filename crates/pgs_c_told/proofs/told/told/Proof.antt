@@ -1,13 +1,13 @@
 -- `told` sets the number of bytes, or passes the refusal on.
 -- Assumes nothing.
 use borrow.Author.Needs.{needs}
-use Rattle.pgs_c_writer.specs.Writing.{codeBy, setBy}
+use Rattle.pgs_c_told.specs.Told.{codeBy, setBy}
 use Rattle.pgs_writer_base.specs.Answers.{writeOutcome}
 use Rattle.pgs_writer_base.specs.declared.head.WriteAnswer.{WriteAnswer}
 use denote.Ref.{now}
 use mathlib.Core.Path.{sym, ap, _∙_}
-use Rattle.pgs_c_writer.proofs.writing.told.Statement.{statement}
-use Rattle.pgs_c_writer.proofs.writing.told.Tie as tie
+use Rattle.pgs_c_told.proofs.told.told.Statement.{statement}
+use Rattle.pgs_c_told.proofs.told.told.Tie as tie
 
 enum-known-answer : tie.Need-enum-known-answer
 enum-known-answer c = search needs

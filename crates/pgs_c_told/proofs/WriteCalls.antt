@@ -1,18 +1,15 @@
 -- From a writer's promise to that of its call. Assumes nothing.
-use mathlib.Core.Path.{_≡_, refl, sym, ap, _∙_, subst}
+use mathlib.Core.Path.{_≡_, refl, ap, _∙_, subst}
 use mathlib.Core.Bool.{Bool, true, false}
 use mathlib.Core.List.{List}
 use Prim.Native.Nat.{ℕ}
 use lib.ListN.{length}
 use Rattle.pgs_base.specs.Outcome.{Verdict, accepted, refused, Outcome, gives, refuses, outcomeOf, unless, delivery, Delivered, pick}
 use Rattle.pgs_base.proofs.Outcomes.{gave, gave-value, turned-down, delivers-refusal}
-use Rattle.pgs_calls.proofs.CallLaws.{code-refused, code-accepted, stays, turns}
 use Rattle.pgs_calls.specs.Calls.{codeOf, becomes, ListCall}
-use Rattle.pgs_c_writer.specs.Writing.{codeBy, setBy, WritesCall}
+use Rattle.pgs_c_told.specs.Told.{codeBy, setBy}
 use Rattle.pgs_encoding.specs.Encode.{encode}
 use Rattle.pgs_segment.specs.Fields.{SegmentFields}
-use Rattle.pgs_stream.specs.Stream.{streamVerdict}
-use Rattle.pgs_stream_writer.specs.StreamWrites.{streamWrites, acceptedIn, writesDone, outputAfter}
 
 module _ (n : ℕ) where
   code-by : (v : Verdict) → codeBy (outcomeOf v n) ≡ codeOf v
@@ -62,27 +59,3 @@ module _ {A : Type 0} (fit : Bool) (a : A) where
   by-cells test f {before = before} {after = after} {o = o} e d =
       subst (λ (t : Bool). Delivered (unless 35 t) (length (encode (f a))) (encode (f a)) before after o) (fits (test a) (gave (unless 35 fit) a e))
       (subst (λ (z : A). Delivered (unless 35 (test z)) (length (encode (f z))) (encode (f z)) before after o) (gave-value (unless 35 fit) a e) d)
-
--- the list of writes
-module _ (s : List ℕ) (n : ℕ) (out : List ℕ) {out′ : List ℕ} {o : Outcome (ℕ × ℕ)}
-    (e : (o ≡ outcomeOf (streamVerdict s) (writesDone (streamWrites n s out))) × (out′ ≡ outputAfter (streamVerdict s) (streamWrites n s out) out)) where
-  pub writes-refused : {k count bytes r : ℕ} → o ≡ refuses k → r ≡ k → WritesCall s n out out′ count count bytes bytes r
-  writes-refused {count = count} {bytes = bytes} q h =
-      let v = turned-down (streamVerdict s) (writesDone (streamWrites n s out)) (sym q ∙ e .0) in
-      record {
-        code = code-refused v h;
-        stored = e .1;
-        counted = stays (acceptedIn (streamWrites n s out .answers)) count v;
-        reached = stays (streamWrites n s out .position) bytes v;
-      }
-
-  pub writes-accepted : {x : ℕ × ℕ} {count bytes : ℕ} → o ≡ gives x → WritesCall s n out out′ count (x .0) bytes (x .1) 0
-  writes-accepted {count = count} {bytes = bytes} q =
-      let v = gave (streamVerdict s) (writesDone (streamWrites n s out)) (sym q ∙ e .0) in
-      let z = gave-value (streamVerdict s) (writesDone (streamWrites n s out)) (sym q ∙ e .0) in
-      record {
-        code = code-accepted v;
-        stored = e .1;
-        counted = turns count v (ap (λ (p : ℕ × ℕ). p .0) z);
-        reached = turns bytes v (ap (λ (p : ℕ × ℕ). p .1) z);
-      }

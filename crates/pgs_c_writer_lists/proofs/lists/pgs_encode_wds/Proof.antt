@@ -1,12 +1,12 @@
 -- `pgs_encode_wds` passes the writer's answer on.
 -- Assumes nothing.
 use borrow.Author.Needs.{needs}
-use Rattle.pgs_c_writer.proofs.WriteCalls.{told-call}
+use Rattle.pgs_c_told.proofs.WriteCalls.{told-call}
 use Rattle.pgs_encoding.specs.Writable.{writable}
 use Rattle.pgs_writer_base.specs.Kinds.{wdsSegment}
 use denote.Ref.{now}
-use Rattle.pgs_c_writer.proofs.writing.pgs_encode_wds.Statement.{statement}
-use Rattle.pgs_c_writer.proofs.writing.pgs_encode_wds.Tie as tie
+use Rattle.pgs_c_writer_lists.proofs.lists.pgs_encode_wds.Statement.{statement}
+use Rattle.pgs_c_writer_lists.proofs.lists.pgs_encode_wds.Tie as tie
 
 encode-wds-requires : tie.Need-encode-wds-requires
 encode-wds-requires c κs = search needs
