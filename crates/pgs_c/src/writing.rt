@@ -1,5 +1,7 @@
 // Writing: each kind of segment, and the segments of a stream.
-ghost use Rattle.pgs_c_writer.specs.Writing.{WriteCall, pcsCellsWritable, odsCellsWritable, WritesCall};
+ghost use Rattle.pgs_c_told.specs.Told.{WriteCall};
+ghost use Rattle.pgs_c_writer_lists.specs.Lists.{pcsCellsWritable};
+ghost use Rattle.pgs_c_writer.specs.Writing.{odsCellsWritable, WritesCall};
 ghost use Rattle.pgs_cells.specs.OdsCells.{odsFrom};
 ghost use Rattle.pgs_cells.specs.PcsCells.{pcsFrom};
 ghost use Rattle.pgs_cells.specs.PdsCells.{pdsFrom};
@@ -24,7 +26,7 @@ pub extern "C" fn pgs_encode_pcs(
 ) -> u8
     ensures { λ r. ⌜ WriteCall (pcsCellsWritable pts dts (now (pcs .entry)) (now (placements .entry))) (pcsSegment pts dts (pcsFrom (now (pcs .entry))) (now (placements .entry))) (now (out .entry)) (now (out .exit)) (now (written .entry)) (now (written .exit)) r ⌝ }
 {
-    pgs_c_writer::writing::pgs_encode_pcs(pts, dts, pcs, placements, out, written)
+    pgs_c_writer_lists::lists::pgs_encode_pcs(pts, dts, pcs, placements, out, written)
 }
 
 #[no_mangle]
@@ -37,7 +39,7 @@ pub extern "C" fn pgs_encode_wds(
 ) -> u8
     ensures { λ r. ⌜ WriteCall (writable (wdsSegment pts dts (now (windows .entry)))) (wdsSegment pts dts (now (windows .entry))) (now (out .entry)) (now (out .exit)) (now (written .entry)) (now (written .exit)) r ⌝ }
 {
-    pgs_c_writer::writing::pgs_encode_wds(pts, dts, windows, out, written)
+    pgs_c_writer_lists::lists::pgs_encode_wds(pts, dts, windows, out, written)
 }
 
 #[no_mangle]
@@ -51,7 +53,7 @@ pub extern "C" fn pgs_encode_pds(
 ) -> u8
     ensures { λ r. ⌜ WriteCall (writable (pdsSegment pts dts (pdsFrom (now (pds .entry))) (now (entries .entry)))) (pdsSegment pts dts (pdsFrom (now (pds .entry))) (now (entries .entry))) (now (out .entry)) (now (out .exit)) (now (written .entry)) (now (written .exit)) r ⌝ }
 {
-    pgs_c_writer::writing::pgs_encode_pds(pts, dts, pds, entries, out, written)
+    pgs_c_writer_lists::lists::pgs_encode_pds(pts, dts, pds, entries, out, written)
 }
 
 #[no_mangle]
