@@ -1,4 +1,2 @@
 pub mod Held
-pub mod HeadLaws
-pub mod Lent
 pub mod Reading

@@ -1,2 +1,1 @@
-pub mod Fragment
 pub mod Reader

@@ -34,27 +34,27 @@ use denote.Triple.Spec.{Meets, tripleOf}
 use denote.Triple.Table.{entered, cited}
 use denote.Triple.Walked.{says, Stays, stay-none-slice, walkOf, goes-none-slice, Walks, ends-at, walked, walk-meets}
 use denote.Exit.{yes}
-use Rattle.pgs_body_reader.specs.Fragment.{placeFrom, headWidths}
+use Rattle.pgs_fragment_reader.specs.Fragment.{placeFrom, headWidths}
 use Rattle.pgs_body_reader.proofs.BodyReader as T
 use Rattle.pgs_body_reader.proofs.BodyReader.Laws as T′
 use Rattle.pgs_body_reader.proofs.Field as F
 use Rattle.pgs_body_reader.proofs.Field.Laws as F′
-use Rattle.pgs_body_reader.proofs.HeadLaws.{starts, rested}
-use Rattle.pgs_body_reader.proofs.Lent.{B, New, Method, a-field, reads, a-part, rests, BodyOwn, bodyOf, lies-in, lies-out, made-new, lent-call}
+use Rattle.pgs_fragment_reader.proofs.HeadLaws.{starts, rested}
+use Rattle.pgs_fragment_reader.proofs.Lent.{B, New, Method, a-field, reads, a-part, rests, BodyOwn, bodyOf, lies-in, lies-out, made-new, lent-call}
 use Rattle.pgs_body_reader.proofs.BodyReader.new.Symbol as new-def
 use Rattle.pgs_body_reader.proofs.BodyReader.new.Met as new-thm
 use Rattle.pgs_body_reader.proofs.BodyReader.u8.Symbol as u8-def
 use Rattle.pgs_body_reader.proofs.BodyReader.u8.Met as u8-thm
 use Rattle.pgs_body_reader.proofs.BodyReader.u16.Symbol as u16-def
 use Rattle.pgs_body_reader.proofs.BodyReader.u16.Met as u16-thm
 use Rattle.pgs_body_reader.proofs.BodyReader.u24.Symbol as u24-def
 use Rattle.pgs_body_reader.proofs.BodyReader.u24.Met as u24-thm
 use Rattle.pgs_body_reader.proofs.BodyReader.rest.Symbol as rest-def
 use Rattle.pgs_body_reader.proofs.BodyReader.rest.Met as rest-thm
-use Rattle.pgs_body_reader.proofs.fragment_data.Key.{name as #fragment-data}
-use Rattle.pgs_body_reader.proofs.fragment_data as f
-use Rattle.pgs_body_reader.proofs.fragment_data.Statement as stated
-use Rattle.pgs_body_reader.proofs.fragment_data.Code as code
+use Rattle.pgs_fragment_reader.proofs.fragment_data.Key.{name as #fragment-data}
+use Rattle.pgs_fragment_reader.proofs.fragment_data as f
+use Rattle.pgs_fragment_reader.proofs.fragment_data.Statement as stated
+use Rattle.pgs_fragment_reader.proofs.fragment_data.Code as code
 
 abbrev stayed : Stays (f.ended .signature .params) (f.ended .kept)
 stayed = (stay-none-slice (0 ∷ []) tt (plain (λ _. u8)) yes, tt)

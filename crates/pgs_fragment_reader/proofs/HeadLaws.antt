@@ -5,11 +5,11 @@ use mathlib.Core.List.{List, [], _∷_}
 use lib.ListN.{length, drop}
 use denote.Ref.{RefT, now}
 use Rattle.pgs_cursor.specs.Cursor.{takenAt}
-use Rattle.pgs_body_reader.specs.Fragment.{placeFrom, headWidths, Headed}
+use Rattle.pgs_fragment_reader.specs.Fragment.{placeFrom, headWidths, Headed}
 use Rattle.pgs_body_reader.specs.Reader.{fieldOutcome, numberOr, placeOr, atStart, leftOf, Reads, Rests}
 use Rattle.pgs_body_reader.specs.declared.BodyReader.{BodyReader}
 use Rattle.pgs_body_reader.specs.declared.Field.{Field}
-use Rattle.pgs_body_reader.specs.declared.FragmentHead.{FragmentHead}
+use Rattle.pgs_fragment_reader.specs.declared.FragmentHead.{FragmentHead}
 
 -- a reader of this body at this position
 pub record At (s : RefT (List ℕ)) (p : ℕ) (h : BodyReader) : Type 0 where

@@ -5,8 +5,8 @@ use mathlib.Core.List.{List, [], _∷_}
 use lib.ListN.{length}
 use Rattle.pgs_cursor.specs.Cursor.{takenAt}
 use Rattle.pgs_base.specs.Outcome.{Outcome}
 use Rattle.pgs_body_reader.specs.Reader.{fieldOutcome, numberOr, placeOr}
-use Rattle.pgs_body_reader.specs.declared.FragmentHead.{FragmentHead}
+use Rattle.pgs_fragment_reader.specs.declared.FragmentHead.{FragmentHead}
 
 -- what reads of these widths answer, one after another from a position on
 abbrev pub fieldsFrom : List ℕ → ℕ → List ℕ → List (Outcome ℕ)
