@@ -29,7 +29,7 @@ fn print_field(field: Field) {
 // The four fields of a head, and how many bytes are left.
 fn print_head(body: &[u8]) {
     io::write_all(STDOUT_FILENO, b"head:");
-    let head = pgs_body_reader::fragment_head(body);
+    let head = pgs_fragment_reader::fragment_head(body);
     let object_id = head.object_id;
     print_field(object_id);
     let object_version = head.object_version;
@@ -54,7 +54,7 @@ fn print_bytes(bytes: &[u8]) {
 // The data of a fragment that is not the first.
 fn print_data(body: &[u8]) {
     io::write_all(STDOUT_FILENO, b"data:");
-    print_bytes(pgs_body_reader::fragment_data(body));
+    print_bytes(pgs_fragment_reader::fragment_data(body));
     print_line_end();
 }
 
