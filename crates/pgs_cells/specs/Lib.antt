@@ -1,3 +1,2 @@
-pub mod OdsCells
 pub mod PcsCells
 pub mod PdsCells

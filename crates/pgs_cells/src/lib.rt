@@ -1,4 +1,3 @@
-// The numbers of a body as a record of cells, as the C interface hands them over, and back.
-pub mod ods;
+// The numbers of a PCS or a PDS as a record of cells, as the C interface hands them over, and back.
 pub mod pcs;
 pub mod pds;

@@ -11,10 +11,10 @@ use Rattle.pgs_segment.specs.declared.ods.Dimensions.{Dimensions}
 use Rattle.pgs_segment.specs.declared.ods.Dimensions.the-variants.{Absent, Present}
 use Rattle.pgs_segment.specs.declared.ods.Ods.{Ods}
 use Rattle.pgs_segment.specs.declared.segment.BodyList.{BodyList}
-use Rattle.pgs_cells.specs.declared.ods.DimensionsGiven.{DimensionsGiven}
-use Rattle.pgs_cells.specs.declared.ods.DimensionsGiven.the-variants as given
-use Rattle.pgs_cells.specs.declared.ods.OdsNumbers.{OdsNumbers}
-use Rattle.pgs_cells.specs.declared.ods.OdsNumbers.the-variants as answers
+use Rattle.pgs_cells_ods.specs.declared.ods.DimensionsGiven.{DimensionsGiven}
+use Rattle.pgs_cells_ods.specs.declared.ods.DimensionsGiven.the-variants as given
+use Rattle.pgs_cells_ods.specs.declared.ods.OdsNumbers.{OdsNumbers}
+use Rattle.pgs_cells_ods.specs.declared.ods.OdsNumbers.the-variants as answers
 
 -- whether dimensions are present, and the two, 0 where they are absent
 abbrev pub dimensionCells : Dimensions → List ℕ

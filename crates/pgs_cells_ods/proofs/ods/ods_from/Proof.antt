@@ -3,10 +3,10 @@
 use borrow.Author.Needs.{needs}
 use mathlib.Core.Path.{sym, ap, _∙_}
 use native.Mathlib.Omega.{arith}
-use Rattle.pgs_cells.proofs.CellLaws.{id-large, version-large, flag-large, dimensions-large, all-fit}
-use Rattle.pgs_cells.specs.OdsCells.{dimensionsOutcome}
-use Rattle.pgs_cells.proofs.ods.ods_from.Statement.{statement}
-use Rattle.pgs_cells.proofs.ods.ods_from.Tie as tie
+use Rattle.pgs_cells_ods.proofs.CellLaws.{id-large, version-large, flag-large, dimensions-large, all-fit}
+use Rattle.pgs_cells_ods.specs.OdsCells.{dimensionsOutcome}
+use Rattle.pgs_cells_ods.proofs.ods.ods_from.Statement.{statement}
+use Rattle.pgs_cells_ods.proofs.ods.ods_from.Tie as tie
 
 array-read-if1 : tie.Need-array-read-if1
 array-read-if1 c = search needs

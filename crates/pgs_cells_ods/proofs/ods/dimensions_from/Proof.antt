@@ -2,9 +2,9 @@
 -- Assumes nothing.
 use borrow.Author.Needs.{needs}
 use native.Mathlib.Omega.{arith}
-use Rattle.pgs_cells.proofs.CellLaws.{absent, mark-large, too-wide, too-high, present}
-use Rattle.pgs_cells.proofs.ods.dimensions_from.Statement.{statement}
-use Rattle.pgs_cells.proofs.ods.dimensions_from.Tie as tie
+use Rattle.pgs_cells_ods.proofs.CellLaws.{absent, mark-large, too-wide, too-high, present}
+use Rattle.pgs_cells_ods.proofs.ods.dimensions_from.Statement.{statement}
+use Rattle.pgs_cells_ods.proofs.ods.dimensions_from.Tie as tie
 
 returns : tie.Need-returns
 returns c = absent (c .before .args .mark) (c .before .args .width) (c .before .args .height) (c .if1 .taken)

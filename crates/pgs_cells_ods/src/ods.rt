@@ -6,7 +6,7 @@ use pgs_segment::ods::Ods;
 use pgs_segment::segment::BodyList;
 ghost use mathlib.Core.Path.{_≡_};
 ghost use Rattle.pgs_base.specs.Outcome.{outcomeOf, unless};
-ghost use Rattle.pgs_cells.specs.OdsCells.{
+ghost use Rattle.pgs_cells_ods.specs.OdsCells.{
   odsCells,
   odsFrom,
   odsCellsFit,

@@ -1,12 +1,12 @@
 -- `ods_cells` lays the cells out; those of the dimensions by their case.
 -- Assumes nothing.
 use Prim.Native.Nat.{ℕ}
-use Rattle.pgs_cells.proofs.ods.ods_cells.Statement.{statement}
-use Rattle.pgs_cells.specs.OdsCells.{dimensionCells}
+use Rattle.pgs_cells_ods.proofs.ods.ods_cells.Statement.{statement}
+use Rattle.pgs_cells_ods.specs.OdsCells.{dimensionCells}
 use borrow.Author.Needs.{needs}
 use mathlib.Core.List.{List, [], _∷_, _++_}
 use mathlib.Core.Path.{sym, ap}
-use Rattle.pgs_cells.proofs.ods.ods_cells.Tie as tie
+use Rattle.pgs_cells_ods.proofs.ods.ods_cells.Tie as tie
 
 cast-id : tie.Need-cast-id
 cast-id c = search needs
