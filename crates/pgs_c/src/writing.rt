@@ -2,7 +2,7 @@
 ghost use Rattle.pgs_c_told.specs.Told.{WriteCall};
 ghost use Rattle.pgs_c_writer_lists.specs.Lists.{pcsCellsWritable};
 ghost use Rattle.pgs_c_writer.specs.Writing.{odsCellsWritable, WritesCall};
-ghost use Rattle.pgs_cells.specs.OdsCells.{odsFrom};
+ghost use Rattle.pgs_cells_ods.specs.OdsCells.{odsFrom};
 ghost use Rattle.pgs_cells.specs.PcsCells.{pcsFrom};
 ghost use Rattle.pgs_cells.specs.PdsCells.{pdsFrom};
 ghost use Rattle.pgs_encoding.specs.Writable.{writable};

@@ -5,7 +5,7 @@ use mathlib.Core.Path.{_≡_}
 use mathlib.Core.List.{List}
 use Rattle.pgs_base.specs.Outcome.{delivery}
 use Rattle.pgs_calls.specs.Calls.{codeOf, becomes, ListCall}
-use Rattle.pgs_cells.specs.OdsCells.{odsCells}
+use Rattle.pgs_cells_ods.specs.OdsCells.{odsCells}
 use Rattle.pgs_cells.specs.PcsCells.{pcsCells}
 use Rattle.pgs_cells.specs.PdsCells.{pdsCells}
 use Rattle.pgs_segment.specs.OdsBody.{odsOf, odsVerdict, odsList}

@@ -1,7 +1,7 @@
 // Reading: the stream and the bodies.
-use pgs_cells::ods::ods_cells;
 use pgs_cells::pcs::pcs_cells;
 use pgs_cells::pds::pds_cells;
+use pgs_cells_ods::ods::ods_cells;
 use pgs_segment::ods::Ods;
 use pgs_segment::ods::OdsAnswer;
 use pgs_segment::pcs::Pcs;

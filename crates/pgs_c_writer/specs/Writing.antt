@@ -6,7 +6,7 @@ use mathlib.Core.Bool.{Bool, false}
 use mathlib.Core.List.{List}
 use Rattle.pgs_base.specs.Outcome.{pick}
 use Rattle.pgs_calls.specs.Calls.{codeOf, becomes}
-use Rattle.pgs_cells.specs.OdsCells.{odsFrom, odsCellsFit}
+use Rattle.pgs_cells_ods.specs.OdsCells.{odsFrom, odsCellsFit}
 use Rattle.pgs_encoding.specs.Writable.{writable}
 use Rattle.pgs_stream.specs.Stream.{streamVerdict}
 use Rattle.pgs_stream_writer.specs.StreamWrites.{streamWrites, acceptedIn, outputAfter}

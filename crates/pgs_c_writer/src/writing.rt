@@ -1,7 +1,7 @@
 // Writing: an ODS, an END, a segment of another kind, and the segments of a stream.
 use pgs_c_told::told::told;
-use pgs_cells::ods::OdsNumbers;
-use pgs_cells::ods::ods_from;
+use pgs_cells_ods::ods::OdsNumbers;
+use pgs_cells_ods::ods::ods_from;
 use pgs_stream_writer::stream::WritesAnswer;
 use pgs_stream_writer::stream::write_segments;
 use pgs_writer::end::encode_end;
@@ -10,7 +10,7 @@ use pgs_writer::other::encode_other;
 ghost use mathlib.Core.Path.{_≡_};
 ghost use Rattle.pgs_c_told.specs.Told.{WriteCall};
 ghost use Rattle.pgs_c_writer.specs.Writing.{odsCellsWritable, WritesCall};
-ghost use Rattle.pgs_cells.specs.OdsCells.{odsFrom};
+ghost use Rattle.pgs_cells_ods.specs.OdsCells.{odsFrom};
 ghost use Rattle.pgs_encoding.specs.Writable.{writable};
 ghost use Rattle.pgs_writer_base.specs.Kinds.{odsSegment, endSegment, otherSegment};
 

@@ -2,11 +2,11 @@
 use crate::print;
 use pgs_base::number::u16_of;
 use pgs_base::number::u32_of;
-use pgs_cells::ods::OdsNumbers;
-use pgs_cells::ods::ods_from;
 use pgs_cells::pcs::PcsNumbers;
 use pgs_cells::pcs::pcs_from;
 use pgs_cells::pds::pds_from;
+use pgs_cells_ods::ods::OdsNumbers;
+use pgs_cells_ods::ods::ods_from;
 use pgs_stream_writer::stream::WritesAnswer;
 use pgs_stream_writer::stream::write_segments;
 use pgs_writer::end::encode_end;

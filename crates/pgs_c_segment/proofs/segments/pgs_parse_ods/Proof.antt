@@ -3,7 +3,7 @@
 use Rattle.pgs_base.proofs.Outcomes.{gave, gave-value, turned-down}
 use Rattle.pgs_calls.proofs.CallLaws.{stays, turns, code-refused, code-accepted}
 use Rattle.pgs_c_segment.proofs.segments.pgs_parse_ods.Statement.{statement}
-use Rattle.pgs_cells.specs.OdsCells.{odsCells}
+use Rattle.pgs_cells_ods.specs.OdsCells.{odsCells}
 use Rattle.pgs_segment.specs.OdsBody.{odsOutcome, odsOf, odsList, odsVerdict}
 use Rattle.pgs_segment.specs.declared.ods.Ods.{Ods}
 use Rattle.pgs_segment.specs.declared.segment.BodyList.{BodyList}

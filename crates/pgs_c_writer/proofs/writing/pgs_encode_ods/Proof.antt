@@ -2,7 +2,7 @@
 -- Assumes nothing.
 use borrow.Author.Needs.{needs}
 use Rattle.pgs_c_told.proofs.WriteCalls.{told-call, cells-call, by-cells}
-use Rattle.pgs_cells.specs.OdsCells.{odsFrom, odsCellsFit, odsNumbersOutcome}
+use Rattle.pgs_cells_ods.specs.OdsCells.{odsFrom, odsCellsFit, odsNumbersOutcome}
 use Rattle.pgs_c_writer.specs.Writing.{odsCellsWritable}
 use Rattle.pgs_encoding.specs.Writable.{writable}
 use Rattle.pgs_segment.specs.declared.ods.Ods.{Ods}
