@@ -1,7 +1,5 @@
 pub mod StripLaws
-pub mod RowLaws
-pub mod PlaneLaws
-pub mod ClipLaws
+pub mod AreaLaws
 pub mod CallLaws
 pub mod LastWins
 pub mod LastCovering

@@ -1,5 +1,4 @@
 pub mod Strips
 pub mod Placing
 pub mod Pictures
-pub mod Clipping
 pub mod Calls

@@ -6,7 +6,7 @@ use native.Mathlib.Omega.{arith}
 use lib.ListN.{length, drop, set, replicate, length-set}
 use borrow.Author.Tests.{le-leb, lt-leb}
 use borrow.Author.Fill.{fill-more}
-use Rattle.pgs_plane.proofs.PlaneLaws.{area-fits}
+use Rattle.pgs_plane.proofs.AreaLaws.{area-fits}
 use Rattle.pgs_plane.proofs.CallLaws.{refuses, changes, cleared-end}
 use Rattle.pgs_plane.proofs.plane.clear_plane.Statement.{statement}
 use Rattle.pgs_plane.proofs.plane.clear_plane.Tie as tie

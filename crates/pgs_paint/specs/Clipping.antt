@@ -4,9 +4,9 @@ use mathlib.Core.List.{List}
 use mathlib.Core.Option.{none, some}
 use Prim.Native.Nat.{ℕ, _+_, _*_, _≤_, _<_}
 use lib.ListN.{length}
 use Rattle.pgs_plane.specs.Placing.{Image, indexAt}
 use Rattle.pgs_plane.specs.Pictures.{Layer}
-use Rattle.pgs_plane.specs.declared.plane.Shown.{Shown}
+use Rattle.pgs_paint.specs.declared.paint.Shown.{Shown}
 
 -- on one axis, the r pixels from the part's first on are those inside the part, the object and the plane
 pub record Visible (at from count size limit r : ℕ) : Type 0 where

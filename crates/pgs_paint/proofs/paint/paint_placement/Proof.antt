@@ -4,12 +4,13 @@ use mathlib.Core.Bool.{true}
 use Prim.Native.Nat.{_*_}
 use native.Mathlib.Omega.{arith}
 use borrow.Author.Needs.{needs}
 use Rattle.pgs_plane.specs.Placing.{imageOf, tableColor}
 use Rattle.pgs_plane.specs.Calls.{allFit}
-use Rattle.pgs_plane.proofs.PlaneLaws.{area-fits, no-columns, no-rows-shown}
+use Rattle.pgs_plane.proofs.AreaLaws.{area-fits}
+use Rattle.pgs_paint.proofs.PlaneLaws.{no-columns, no-rows-shown}
 use Rattle.pgs_plane.proofs.CallLaws.{refuses, changes, short-plane, short-table, short-bitmap, all-fit}
-use Rattle.pgs_plane.proofs.plane.paint_placement.Statement.{statement}
-use Rattle.pgs_plane.proofs.plane.paint_placement.Tie as tie
+use Rattle.pgs_paint.proofs.paint.paint_placement.Statement.{statement}
+use Rattle.pgs_paint.proofs.paint.paint_placement.Tie as tie
 
 mul-if1 : tie.Need-mul-if1
 mul-if1 c = search needs

@@ -2,9 +2,9 @@
 use mathlib.Core.Path.{sym, ap}
 use borrow.Author.Needs.{needs}
 use Rattle.pgs_segment.specs.declared.pcs.Cropping.{Cropping}
 use Rattle.pgs_plane.specs.Placing.{partOf}
-use Rattle.pgs_plane.proofs.plane.part_of.Statement.{statement}
-use Rattle.pgs_plane.proofs.plane.part_of.Tie as tie
+use Rattle.pgs_paint.proofs.paint.part_of.Statement.{statement}
+use Rattle.pgs_paint.proofs.paint.part_of.Tie as tie
 
 enum-told : tie.Need-enum-told
 enum-told c = search needs

@@ -5,10 +5,10 @@ use Prim.Native.Nat.{_*_, _-_, _≤_}
 use native.Mathlib.Omega.{arith}
 use lib.ListN.{length, drop, length-set}
 use borrow.Author.Needs.{needs}
 use Rattle.pgs_plane.specs.Strips.{strip}
-use Rattle.pgs_plane.proofs.RowLaws.{colors, row-begins, pixel-stored, row-stored}
-use Rattle.pgs_plane.proofs.plane.paint_row.Statement.{statement}
-use Rattle.pgs_plane.proofs.plane.paint_row.Tie as tie
+use Rattle.pgs_paint.proofs.RowLaws.{colors, row-begins, pixel-stored, row-stored}
+use Rattle.pgs_paint.proofs.paint.paint_row.Statement.{statement}
+use Rattle.pgs_paint.proofs.paint.paint_row.Tie as tie
 
 abbrev Inv-loop : tie.InvT-loop
 Inv-loop pixels table row₀ i₀ row i =

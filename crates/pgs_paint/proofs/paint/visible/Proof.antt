@@ -1,7 +1,7 @@
 -- `visible` meets its contract: in each case the least of three numbers is answered. Assumes nothing.
 use native.Mathlib.Omega.{arith}
-use Rattle.pgs_plane.proofs.plane.visible.Statement.{statement}
-use Rattle.pgs_plane.proofs.plane.visible.Tie as tie
+use Rattle.pgs_paint.proofs.paint.visible.Statement.{statement}
+use Rattle.pgs_paint.proofs.paint.visible.Tie as tie
 
 returns : tie.Need-returns
 returns c =

@@ -1,10 +1,10 @@
 -- `clip` meets its contract: on each axis `visible` found what is inside. Assumes nothing.
 use mathlib.Core.List.{[]}
 use Rattle.pgs_plane.specs.Placing.{imageOf}
-use Rattle.pgs_plane.proofs.ClipLaws.{clipped-inside, clipped-exactly}
+use Rattle.pgs_paint.proofs.ClipLaws.{clipped-inside, clipped-exactly}
 use borrow.Author.Needs.{needs}
-use Rattle.pgs_plane.proofs.plane.clip.Statement.{statement}
-use Rattle.pgs_plane.proofs.plane.clip.Tie as tie
+use Rattle.pgs_paint.proofs.paint.clip.Statement.{statement}
+use Rattle.pgs_paint.proofs.paint.clip.Tie as tie
 
 cast-x : tie.Need-cast-x
 cast-x c = search needs

@@ -5,12 +5,12 @@ use native.Mathlib.Omega.{arith}
 use lib.ListN.{length}
 use borrow.Rule.Slice.PartMut.{same-len-mid}
 use borrow.Author.Needs.{needs}
 use Rattle.pgs_plane.specs.Placing.{imageOf, tableColor}
 use Rattle.pgs_plane.specs.Pictures.{Layer}
-use Rattle.pgs_plane.specs.Clipping.{Exactly}
-use Rattle.pgs_plane.proofs.PlaneLaws.{firstRows, Room, room, row-room, row-laid, rows-begin, rows-end}
-use Rattle.pgs_plane.proofs.plane.paint_rows.Statement.{statement}
-use Rattle.pgs_plane.proofs.plane.paint_rows.Tie as tie
+use Rattle.pgs_paint.specs.Clipping.{Exactly}
+use Rattle.pgs_paint.proofs.PlaneLaws.{firstRows, Room, room, row-room, row-laid, rows-begin, rows-end}
+use Rattle.pgs_paint.proofs.paint.paint_rows.Statement.{statement}
+use Rattle.pgs_paint.proofs.paint.paint_rows.Tie as tie
 
 abbrev Inv-loop : tie.InvT-loop
 Inv-loop s image-width image-height bitmap table width height plane₀ columns rows j₀ plane j =

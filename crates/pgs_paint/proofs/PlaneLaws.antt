@@ -4,20 +4,21 @@ use mathlib.Core.List.{List, _++_, append-assoc, append-nil}
 use mathlib.Core.Bool.{Bool, true, false}
 use mathlib.Core.Option.{none}
 use Prim.Native.Nat.{ℕ, suc, _+_, _*_, _-_, _^_, _≤_, _<_}
-use native.Mathlib.Nat.{mul-suc, mul-add, mul-zero, mul-le-mul, mul-le-mul-left, add-assoc, add-sub-cancel-left}
+use native.Mathlib.Nat.{mul-suc, mul-add, mul-zero, mul-le-mul-left, add-assoc, add-sub-cancel-left}
 use native.Mathlib.Omega.{arith}
 use lib.ListN.{length, take, drop, getD, length-append, length-drop, take-append-drop}
 use lib.Seq.{drop-drop, take-take, take-all, take-append-le, drop-append-le, take-append-add, drop-append-add, length-take-le, getD-take, getD-drop}
 use lib.Dec.{ltb}
 use borrow.Author.Tests.{ltb-true, ltb-false}
 use borrow.Rule.Slice.PartMut.{midOf, putMid, mid-len}
 use Rattle.pgs_plane.specs.Strips.{strip, pieces}
 use Rattle.pgs_plane.specs.Placing.{Image, imageOf, indexAt, tableColor}
 use Rattle.pgs_plane.specs.Pictures.{Layer, colorOver, rowPainted, painted}
-use Rattle.pgs_plane.specs.Clipping.{Exactly, Bounds}
-use Rattle.pgs_plane.specs.declared.plane.Shown.{Shown}
-use Rattle.pgs_plane.proofs.RowLaws.{colors}
+use Rattle.pgs_paint.specs.Clipping.{Exactly, Bounds}
+use Rattle.pgs_paint.specs.declared.paint.Shown.{Shown}
+use Rattle.pgs_paint.proofs.RowLaws.{colors}
+use Rattle.pgs_plane.proofs.AreaLaws.{area-fits}
 use Rattle.pgs_plane.proofs.StripLaws.{pieces-add, pieces-kept, pieces-new}
 
 -- ---- numbers
 
@@ -26,12 +27,6 @@ pub row-inside : (size count n x : ℕ) → n < count → x ≤ size → size * 
 row-inside size count n x below h =
     let more : size * suc n ≤ size * count = mul-le-mul-left size below in
     omega (arith, mul-suc size n)
-
--- four bytes for each pixel of two sizes fit
-pub area-fits : {a b : ℕ} → a ≤ 262140 → b < 65536 → a * b < 2 ^ 62
-area-fits {a} {b} ha hb =
-    let most : a * b ≤ 262140 * 65535 = mul-le-mul {n₁ = a} {m₁ = b} {n₂ = 262140} {m₂ = 65535} ha (omega arith) in
-    omega arith
 
 -- one row more
 more : (s n : ℕ) → s * (n + 1) ≡ s * n + s

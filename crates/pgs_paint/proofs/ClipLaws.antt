@@ -10,9 +10,9 @@ use lib.Dec.{ltb}
 use Rattle.pgs_base.specs.Outcome.{pick}
 use Rattle.pgs_segment.specs.declared.pcs.CompositionObjectCrop.{CompositionObjectCrop}
 use Rattle.pgs_segment.specs.declared.pcs.CompositionObject.{CompositionObject}
 use Rattle.pgs_plane.specs.Placing.{Image, indexAt, partOf, covered, partShown, indexShown}
-use Rattle.pgs_plane.specs.Clipping.{Visible, Bounds, Exactly}
-use Rattle.pgs_plane.specs.declared.plane.Shown.{Shown}
+use Rattle.pgs_paint.specs.Clipping.{Visible, Bounds, Exactly}
+use Rattle.pgs_paint.specs.declared.paint.Shown.{Shown}
 
 and-false : (b : Bool) → (b && false) ≡ false
 and-false true = refl
