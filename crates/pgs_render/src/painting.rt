@@ -1,5 +1,5 @@
 // The placements of a display set painted in order: 01, 'Plane'.
-use pgs_plane::plane::paint_placement;
+use pgs_paint::paint::paint_placement;
 use pgs_segment::pcs::CompositionObject;
 use pgs_segment::pcs::CompositionObjectCrop;
 use pgs_segment::pcs::Cropping;

@@ -4,7 +4,7 @@ use borrow.Author.Needs.{needs}
 use borrow.Author.Tests.{not-true, not-false}
 use denote.Ref.{now}
 use Prim.Native.Nat.{_*_}
-use Rattle.pgs_plane.proofs.PlaneLaws.{area-fits}
+use Rattle.pgs_plane.proofs.AreaLaws.{area-fits}
 use mathlib.Core.Path.{sym, ap, _∙_}
 use native.Mathlib.Omega.{arith}
 use Rattle.pgs_bitmap.specs.Decoding.{outcome}
