@@ -7,7 +7,6 @@ use pgs_stream_writer::stream::write_segments;
 use pgs_writer::end::encode_end;
 use pgs_writer::ods::encode_ods;
 use pgs_writer::other::encode_other;
-ghost use mathlib.Core.Path.{_≡_};
 ghost use Rattle.pgs_c_told.specs.Told.{WriteCall};
 ghost use Rattle.pgs_c_writer.specs.Writing.{odsCellsWritable, WritesCall};
 ghost use Rattle.pgs_cells_ods.specs.OdsCells.{odsFrom};

@@ -6,7 +6,6 @@ use pgs_cells::pds::pds_from;
 use pgs_writer_lists::pds::encode_pds;
 use pgs_writer_lists::wds::encode_wds;
 use pgs_writer_pcs::pcs::encode_pcs;
-ghost use mathlib.Core.Path.{_≡_};
 ghost use Rattle.pgs_c_told.specs.Told.{WriteCall};
 ghost use Rattle.pgs_c_writer_lists.specs.Lists.{pcsCellsWritable};
 ghost use Rattle.pgs_cells.specs.PcsCells.{pcsFrom};
