@@ -20,6 +20,16 @@ pub struct Inputs {
 }
 
 impl Inputs {
+    pub fn add(&mut self, more: Inputs) {
+        self.streams += more.streams;
+        self.bodies += more.bodies;
+        self.bitmaps += more.bitmaps;
+        self.colors += more.colors;
+        self.palettes += more.palettes;
+        self.segments += more.segments;
+        self.planes += more.planes;
+    }
+
     /// Those that came after `earlier`.
     pub fn since(self, earlier: Inputs) -> Inputs {
         Inputs {
@@ -67,12 +77,24 @@ pub struct Tally {
 impl Tally {
     pub fn called(&mut self, function: &'static str, number: u8) {
         self.calls += 1;
+        self.answers_of(function)[number as usize] += 1;
+    }
+
+    fn answers_of(&mut self, function: &'static str) -> &mut [u64; NUMBERS] {
         let known = self.answers.iter().position(|(name, _)| *name == function);
         let at = known.unwrap_or_else(|| {
             self.answers.push((function, [0; NUMBERS]));
             self.answers.len() - 1
         });
-        self.answers[at].1[number as usize] += 1;
+        &mut self.answers[at].1
+    }
+
+    pub fn add(&mut self, more: &Tally) {
+        self.inputs.add(more.inputs);
+        self.calls += more.calls;
+        for (function, times) in &more.answers {
+            self.answers_of(function).iter_mut().zip(times).for_each(|(sum, n)| *sum += n);
+        }
     }
 
     /// The numbers that a function had to answer, and how often.

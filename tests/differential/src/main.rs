@@ -29,8 +29,11 @@ use compare::Tally;
 use record::Recorder;
 use run::{unhex, Layer, Run};
 use std::fs;
+use std::num::NonZero;
 use std::path::Path;
 use std::process::ExitCode;
+use std::sync::atomic::{AtomicUsize, Ordering};
+use std::thread;
 use std::time::Instant;
 
 const USAGE: &str = "\
@@ -56,7 +59,7 @@ differential palettes HEX                       palettes: the named id, then for
                                                 entries in 2 bytes, and the entries
 HEX is hexadecimal digits, or @ and the name of a file that has them";
 
-/// The layers in the order in which they are compared.
+/// The layers in the order in which they are recorded.
 const LAYERS: [Layer; 6] =
     [segments::LAYER, writer::LAYER, bitmap::LAYER, color::LAYER, sets::LAYER, paint::LAYER];
 
@@ -157,14 +160,14 @@ fn run_recording(folder: &Path) -> Result<(), String> {
 
 fn run_comparison(options: &Options) -> Result<(), String> {
     let began = Instant::now();
-    let mut run = Run::new(options.seed, options.streams);
-    let regressions = regressions::run(&mut run.tally)?;
+    let mut tally = Tally::default();
+    let regressions = regressions::run(&mut tally)?;
     println!("regressions: {regressions}");
     let chosen = |layer: &&Layer| options.layer.as_ref().is_none_or(|name| name == layer.name);
-    for layer in LAYERS.iter().filter(chosen) {
-        run.compare_layer(layer);
-    }
-    let tally = &run.tally;
+    let mut layers: Vec<&Layer> = LAYERS.iter().filter(chosen).collect();
+    // the longest comparison begins first
+    layers.sort_by_key(|layer| layer.name != bitmap::LAYER.name);
+    compare_layers(&layers, options).iter().for_each(|layer| tally.add(layer));
     print!("{}", tally.answers());
     println!(
         "the same on {}: {} calls, seed {}, {} s",
@@ -173,6 +176,23 @@ fn run_comparison(options: &Options) -> Result<(), String> {
         options.seed,
         began.elapsed().as_secs()
     );
-    let answers = LAYERS.iter().filter(chosen).flat_map(|layer| layer.answers);
-    answers.into_iter().try_for_each(|(function, numbers)| tally.met(function, numbers))
+    let mut answers = layers.iter().flat_map(|layer| layer.answers);
+    answers.try_for_each(|(function, numbers)| tally.met(function, numbers))
+}
+
+/// Compares the layers, as many at a time as there are processors: inputs go by the seed and the layer alone.
+fn compare_layers(layers: &[&Layer], options: &Options) -> Vec<Tally> {
+    let next = AtomicUsize::new(0);
+    let worker = || {
+        let mut run = Run::new(options.seed, options.streams);
+        while let Some(layer) = layers.get(next.fetch_add(1, Ordering::Relaxed)) {
+            run.compare_layer(layer);
+        }
+        run.tally
+    };
+    let workers = thread::available_parallelism().map_or(1, NonZero::get).min(layers.len());
+    thread::scope(|scope| {
+        let running: Vec<_> = (0..workers).map(|_| scope.spawn(worker)).collect();
+        running.into_iter().map(|worker| worker.join().expect("a comparison that ends")).collect()
+    })
 }

@@ -4,7 +4,6 @@ use crate::compare::Tally;
 use crate::record::Recorder;
 use crate::regressions;
 use crate::shrink::{smallest, Form};
-use std::io::{self, Write};
 use std::{env, fs, process};
 
 pub struct Run {
@@ -101,10 +100,8 @@ impl Run {
     pub fn compare_layer(&mut self, layer: &Layer) {
         for group in (layer.groups)() {
             let earlier = self.tally.inputs;
-            print!("{}: {}: ", layer.name, group.name);
-            io::stdout().flush().expect("standard output");
             (group.inputs)(self);
-            println!("{}", self.tally.inputs.since(earlier));
+            println!("{}: {}: {}", layer.name, group.name, self.tally.inputs.since(earlier));
         }
     }
 }
