@@ -36,7 +36,8 @@ pub fn run(seed: u64) {
 
     let (walk, once) = (walking(&hour), walking(&hour[..hour.len() / LARGEST]));
     println!("\nof this, one bare walk from head to head of the hour takes {:.3} ms,", millis(walk));
-    println!("of a {LARGEST}th of it {:.4} ms: past the cache each head is a memory access", millis(once));
+    println!("of a {LARGEST}th of it {:.4} ms: past the cache each head is a memory access;", millis(once));
+    println!("and clearing a plane, which both sides do, {:.3} ms", millis(clearing()));
 
     println!("\nas the input grows: milliseconds of the library, ratio; how often the time of 1 x, at {LARGEST} x\n");
     let heads = STEPS.map(|step| format!("{step:>13} x"));
@@ -120,6 +121,16 @@ fn walking(stream: &[u8]) -> Duration {
         black_box(at);
     };
     timed(walk, || {}).library
+}
+
+/// The least that painting can take: every byte of the plane stored once.
+fn clearing() -> Duration {
+    let mut plane = vec![1; 4 * SCREEN.0 * SCREEN.1];
+    let clear = || {
+        plane.fill(0);
+        black_box(&plane);
+    };
+    timed(clear, || {}).library
 }
 
 fn reading(stream: &[u8]) -> Times {
