@@ -34,10 +34,12 @@ pub fn run(seed: u64) {
     row("painting a set, 1920 by 1080", painting(&sentence(&mut p)));
     row("browsing: an hour, 100 planes", browsing(&hour, 100));
 
-    let (walk, once) = (walking(&hour), walking(&hour[..hour.len() / LARGEST]));
-    println!("\nof this, one bare walk from head to head of the hour takes {:.3} ms,", millis(walk));
-    println!("of a {LARGEST}th of it {:.4} ms: past the cache each head is a memory access;", millis(once));
-    println!("and clearing a plane, which both sides do, {:.3} ms", millis(clearing()));
+    let part = &hour[..hour.len() / LARGEST];
+    println!("\nwhat neither side can do without, in milliseconds:");
+    floor("a bare walk from head to head of the hour", walking(&hour));
+    floor(&format!("the same over a {LARGEST}th of it, which fits in the cache"), walking(part));
+    floor("the bytes of the hour copied once", copying(&hour));
+    floor("a plane of 1920 by 1080 cleared once", clearing());
 
     println!("\nas the input grows: milliseconds of the library, ratio; how often the time of 1 x, at {LARGEST} x\n");
     let heads = STEPS.map(|step| format!("{step:>13} x"));
@@ -93,6 +95,11 @@ fn row(name: &str, times: Times) {
     println!("{name:32} {library:>7.3} ms {rust:>7.3} ms {:>6.2}", ratio(&times));
 }
 
+/// A time that both sides need.
+fn floor(name: &str, time: Duration) {
+    println!("{name:56} {:>8.4}", millis(time));
+}
+
 fn ratio(times: &Times) -> f64 {
     times.library.as_secs_f64() / times.rust.as_secs_f64()
 }
@@ -121,6 +128,16 @@ fn walking(stream: &[u8]) -> Duration {
         black_box(at);
     };
     timed(walk, || {}).library
+}
+
+/// The least that writing a stream again can take beside reading it.
+fn copying(stream: &[u8]) -> Duration {
+    let mut out = vec![1; stream.len()];
+    let copy = || {
+        out.copy_from_slice(black_box(stream));
+        black_box(&out);
+    };
+    timed(copy, || {}).library
 }
 
 /// The least that painting can take: every byte of the plane stored once.
