@@ -66,7 +66,7 @@ abbrev pub cardLines : List ℕ → List ℕ
 cardLines s = linesOf (map cardOf (setsOf s))
 
 -- whether the lines are written: "the stream's first, or else of the first set that is refused". A place has eight digits in a stream of
--- up to 2^32 bytes; 35 above
+-- up to 2^32 bytes; 35 above, of which 01 does not speak
 abbrev pub cardsVerdict : List ℕ → Verdict
 cardsVerdict s = andThen (allObjectsVerdict s) (unless 35 (leb (length s) 4294967296))
 

@@ -16,7 +16,7 @@ ghost use Rattle.pgs_cells_ods.specs.OdsCells.{
   dimensionsOutcome,
 };
 
-// The numbers, or 35 for a cell that is too large for its field.
+// The numbers, or 35 for a cell that is too large for its field, but for the declared length, which the writer tests.
 pub enum OdsNumbers {
     Numbers(Ods),
     Refused(Refusal),

@@ -36,7 +36,7 @@ placementFields p =
     ∷ (2, p .«object_vertical_position»)
     ∷ cropFields (p .cropping)
 
--- "width 2, height 2, frame rate 1, composition number 2, state 1, palette update flag 1, palette id 1, count 1"
+-- "width 2, height 2, frame rate 1, composition number 2, state 1 .., palette update flag 1 .., palette id 1, count 1"
 abbrev pub pcsFields : Pcs → ℕ → List Field
 pcsFields p count =
     (2, p .width)

@@ -22,7 +22,8 @@ outcome (Refused why) = refused (numberOf why)
 abbrev pub planeFits : (width height : ℕ) → List ℕ → Bool
 planeFits width height plane = leb (4 * width * height) (length plane)
 
--- The plane's room, four bytes for each of the 256 indices in the table, and "width times height bytes for a bitmap".
+-- the plane's room, four bytes for each of the 256 indices in the table, and width times height indices of the bitmap: 01 does not say
+-- what is needed of the last two
 abbrev pub allFit : Image → List ℕ → (width height : ℕ) → List ℕ → Bool
 allFit image table width height plane =
     planeFits width height plane && (leb 1024 (length table) && leb (image .imageWidth * image .imageHeight) (length (image .indices)))

@@ -1,3 +1,4 @@
 pub mod Fragments
 pub mod Kinds
 pub mod States
+pub mod Updates
