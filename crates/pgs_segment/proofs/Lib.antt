@@ -1,7 +1,2 @@
 pub mod HeaderLaws
-pub mod OdsLaws
-pub mod PcsLaws
-pub mod PdsLaws
-pub mod RecordLaws
 pub mod SegmentLaws
-pub mod WdsLaws

@@ -13,7 +13,7 @@ use Rattle.pgs_segment.specs.Fields.{bodyVerdict, bodyList, bodyOf, numb
 use Rattle.pgs_segment.specs.Header.{sizeOf, marked, headerVerdict}
 use Rattle.pgs_segment.specs.OneSegment.{segmentType, usedBy, bodyAt, segmentVerdict}
 use Rattle.pgs_views.specs.declared.«segment_type».SegmentType.{SegmentType}
-use Rattle.pgs_segment.specs.declared.segment.BodyList.{BodyList}
+use Rattle.pgs_records.specs.declared.BodyList.{BodyList}
 use Rattle.pgs_segment.specs.declared.segment.SegmentBody.{SegmentBody}
 
 module _ (l : List ℕ) where

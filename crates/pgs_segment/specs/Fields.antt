@@ -8,23 +8,23 @@ use lib.Dec.{eqb}
 use Rattle.pgs_views.specs.Kinds.{rawOf}
 use Rattle.pgs_base.specs.Outcome.{Verdict, accepted, Outcome, gives, refuses, unless}
 use Rattle.pgs_base.specs.Refusals.{numberOf}
-use Rattle.pgs_segment.specs.OdsBody.{odsOf, odsData, odsVerdict, odsList}
-use Rattle.pgs_segment.specs.PcsBody.{pcsOf, placementsOf, pcsVerdict, pcsList}
-use Rattle.pgs_segment.specs.PdsBody.{pdsOf, entriesOf, pdsVerdict, pdsList}
-use Rattle.pgs_segment.specs.WdsBody.{windowsOf, wdsVerdict, wdsList}
+use Rattle.pgs_ods.specs.OdsBody.{odsOf, odsData, odsVerdict, odsList}
+use Rattle.pgs_pcs.specs.PcsBody.{pcsOf, placementsOf, pcsVerdict, pcsList}
+use Rattle.pgs_pds.specs.PdsBody.{pdsOf, entriesOf, pdsVerdict, pdsList}
+use Rattle.pgs_wds.specs.WdsBody.{windowsOf, wdsVerdict, wdsList}
 use Rattle.pgs_views.specs.declared.«segment_type».SegmentType.{SegmentType}
 use Rattle.pgs_views.specs.declared.«segment_type».SegmentType.the-variants as kinds
-use Rattle.pgs_segment.specs.declared.ods.Ods.{Ods}
-use Rattle.pgs_segment.specs.declared.pcs.CompositionObject.{CompositionObject}
-use Rattle.pgs_segment.specs.declared.pcs.Pcs.{Pcs}
-use Rattle.pgs_segment.specs.declared.pds.PaletteEntry.{PaletteEntry}
-use Rattle.pgs_segment.specs.declared.pds.Pds.{Pds}
+use Rattle.pgs_ods.specs.declared.ods.Ods.{Ods}
+use Rattle.pgs_pcs.specs.declared.pcs.CompositionObject.{CompositionObject}
+use Rattle.pgs_pcs.specs.declared.pcs.Pcs.{Pcs}
+use Rattle.pgs_pds.specs.declared.pds.PaletteEntry.{PaletteEntry}
+use Rattle.pgs_pds.specs.declared.pds.Pds.{Pds}
 use Rattle.pgs_segment.specs.declared.segment.BodyAnswer.{BodyAnswer}
 use Rattle.pgs_segment.specs.declared.segment.BodyAnswer.the-variants.{Body, Refused}
-use Rattle.pgs_segment.specs.declared.segment.BodyList.{BodyList}
+use Rattle.pgs_records.specs.declared.BodyList.{BodyList}
 use Rattle.pgs_segment.specs.declared.segment.SegmentBody.{SegmentBody}
 use Rattle.pgs_segment.specs.declared.segment.SegmentBody.the-variants as numbers
-use Rattle.pgs_segment.specs.declared.wds.Window.{Window}
+use Rattle.pgs_wds.specs.declared.wds.Window.{Window}
 
 -- all values and data bytes of a body
 pub data BodyFields : Type 0 where

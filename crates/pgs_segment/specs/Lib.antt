@@ -1,9 +1,3 @@
-pub mod Checks
 pub mod Fields
 pub mod Header
-pub mod OdsBody
 pub mod OneSegment
-pub mod PcsBody
-pub mod PdsBody
-pub mod Records
-pub mod WdsBody

@@ -1,8 +1,8 @@
 // The 13-byte head of a segment, and the kinds of segments (01, module 2).
-use crate::fields::u8_at;
-use crate::fields::u16_at;
-use crate::fields::u32_at;
 use pgs_base::refusal::Refusal;
+use pgs_fields::u8_at;
+use pgs_fields::u16_at;
+use pgs_fields::u32_at;
 ghost use mathlib.Core.Path.{_≡_};
 ghost use Rattle.pgs_segment.specs.Header.{headerOutcome, headerOf};
 

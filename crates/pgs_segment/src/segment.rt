@@ -1,18 +1,20 @@
 // One segment: its head and its body (01, module 4).
 use crate::header::HeaderAnswer;
 use crate::header::SegmentHeader;
-use crate::ods::Ods;
-use crate::ods::check_ods;
-use crate::pcs::Pcs;
-use crate::pcs::check_pcs;
-use crate::pds::Pds;
-use crate::pds::check_pds;
-use crate::wds::check_wds;
 use pgs_base::refusal::Refusal;
+use pgs_ods::ods::Ods;
+use pgs_ods::ods::check_ods;
+use pgs_pcs::pcs::Pcs;
+use pgs_pcs::pcs::check_pcs;
+use pgs_pds::pds::Pds;
+use pgs_pds::pds::check_pds;
+use pgs_records::BodyList;
+use pgs_records::Checked;
 use pgs_views::segment_type::SegmentType;
+use pgs_wds::wds::check_wds;
 ghost use mathlib.Core.Path.{_≡_};
-ghost use Rattle.pgs_base.specs.Outcome.{accepted, outcomeOf};
-ghost use Rattle.pgs_segment.specs.Checks.{checkedOutcome};
+ghost use Rattle.pgs_base.specs.Outcome.{outcomeOf};
+ghost use Rattle.pgs_records.specs.Checks.{checkedOutcome};
 ghost use Rattle.pgs_segment.specs.Fields.{bodyVerdict, bodyList, bodyOf, numbersOf, bodyOutcome};
 ghost use Rattle.pgs_segment.specs.OneSegment.{
   segmentVerdict,
@@ -21,22 +23,6 @@ ghost use Rattle.pgs_segment.specs.OneSegment.{
   segmentOf,
   segmentOutcome,
 };
-
-// The part of a body that holds its records (placements, windows, entries) or its data bytes.
-pub struct BodyList {
-    // how many records; 0 where the part holds data bytes
-    pub count: usize,
-    // the part's place in the body
-    pub start: usize,
-    // its length in bytes
-    pub len: usize,
-}
-
-// A body that was tested: where its list stands, or why it is refused.
-pub enum Checked {
-    List(BodyList),
-    Refused(Refusal),
-}
 
 // The kind of a body with its numbers; its list or data stands in the body.
 pub enum SegmentBody {
@@ -109,9 +95,8 @@ fn check_body(kind: SegmentType, body: &[u8]) -> Checked
 }
 
 impl SegmentBody {
-    // The numbers of a body that is known to be whole.
+    // The numbers of a body of this kind.
     fn numbers(kind: SegmentType, body: &[u8]) -> SegmentBody
-        requires { ⌜ bodyVerdict kind (now body) ≡ accepted ⌝ }
         ensures { λ r. ⌜ r ≡ numbersOf (bodyOf kind (now (body .entry))) ⌝ }
     {
         match kind {

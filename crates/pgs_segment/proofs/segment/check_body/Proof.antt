@@ -5,7 +5,7 @@ use Rattle.pgs_base.specs.Outcome.{Outcome, outcomeOf}
 use Rattle.pgs_segment.proofs.segment.check_body.Statement.{statement}
 use Rattle.pgs_segment.specs.Fields.{bodyVerdict, bodyList}
 use Rattle.pgs_views.specs.declared.«segment_type».SegmentType.{SegmentType}
-use Rattle.pgs_segment.specs.declared.segment.BodyList.{BodyList}
+use Rattle.pgs_records.specs.declared.BodyList.{BodyList}
 use borrow.Author.Needs.{needs}
 use denote.Ref.{now}
 use mathlib.Core.List.{List}

@@ -5,7 +5,7 @@ use Rattle.pgs_base.proofs.Outcomes.{gave, gave-value, turned-down, gives-as, r
 use Rattle.pgs_base.specs.Outcome.{gives, outcomeOf, accepted}
 use Rattle.pgs_segment.proofs.SegmentLaws.{has-header, head-decides, body-past-end, body-decides, lent-body}
 use Rattle.pgs_segment.proofs.segment.check_segment.Statement.{statement}
-use Rattle.pgs_segment.specs.Checks.{checkedOutcome}
+use Rattle.pgs_records.specs.Checks.{checkedOutcome}
 use Rattle.pgs_segment.specs.Fields.{bodyVerdict, bodyList}
 use Rattle.pgs_segment.specs.Header.{headerOutcome, headerVerdict, headerFields, sizeOf, kindOf}
 use Rattle.pgs_views.specs.Kinds.{typeOf}

@@ -3,7 +3,7 @@
 use Prim.Native.Nat.{ℕ, _+_}
 use Rattle.pgs_base.proofs.Outcomes.{gave, gave-value, turned-down, gives-as, refuses-as}
 use Rattle.pgs_base.specs.Outcome.{gives, outcomeOf, accepted}
-use Rattle.pgs_segment.proofs.SegmentLaws.{lent-verdict, lent-numbers, accepted-size, accepted-body}
+use Rattle.pgs_segment.proofs.SegmentLaws.{lent-numbers, accepted-size}
 use Rattle.pgs_segment.proofs.segment.Segment.parse.Statement.{statement}
 use Rattle.pgs_segment.specs.Header.{sizeOf, kindOf}
 use Rattle.pgs_views.specs.Kinds.{typeOf}
@@ -58,7 +58,7 @@ part-numbers-end : tie.Need-part-numbers-end
 part-numbers-end c = let l = now (c .before .before .before .before .before .before .before .before .before .args .buf) in omega (arith, accepted-size l (ok l (sym (ap frameOutcome (c .before .before .before .before .before .frame .given .1)) ∙ c .before .before .before .before .before .before .before .check-segment .ensures)), size-is l (sym (ap frameOutcome (c .before .before .before .before .before .frame .given .1)) ∙ c .before .before .before .before .before .before .before .check-segment .ensures))
 
 numbers-requires : tie.Need-numbers-requires
-numbers-requires c κs = let l = now (c .before .before .before .before .before .before .before .before .before .before .args .buf) in let e = (sym (ap frameOutcome (c .before .before .before .before .before .before .frame .given .1)) ∙ c .before .before .before .before .before .before .before .before .check-segment .ensures) in lent-verdict l (c .before .from-raw .ensures ∙ ap typeOf (kind-is l e)) (size-is l e) (accepted-body l (ok l e))
+numbers-requires c κs = search needs
 
 returns : tie.Need-returns
 returns c = let l = now (c .before .before .before .before .before .args .buf) in refuses-as (segmentOf l) (turned-down (segmentVerdict l) (frameOf l) (sym (ap frameOutcome (c .before .why .given .1)) ∙ c .before .before .before .check-segment .ensures))

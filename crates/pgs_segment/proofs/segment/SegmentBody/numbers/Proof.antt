@@ -1,46 +1,38 @@
 -- `SegmentBody::numbers` reads the numbers of the kind.
 -- Assumes nothing.
 use Prim.Native.Nat.{ℕ}
-use Rattle.pgs_base.specs.Outcome.{accepted}
 use Rattle.pgs_segment.proofs.segment.SegmentBody.numbers.Statement.{statement}
-use Rattle.pgs_segment.specs.Fields.{bodyVerdict, bodyOf, numbersOf}
+use Rattle.pgs_segment.specs.Fields.{bodyOf, numbersOf}
 use Rattle.pgs_views.specs.declared.«segment_type».SegmentType.{SegmentType}
 use Rattle.pgs_segment.specs.declared.segment.SegmentBody.{SegmentBody}
 use borrow.Author.Needs.{needs}
 use denote.Ref.{now}
 use mathlib.Core.List.{List}
 use mathlib.Core.Path.{_≡_, refl, sym, ap, _∙_}
-use Rattle.pgs_segment.proofs.OdsLaws as ods-laws
-use Rattle.pgs_segment.proofs.PcsLaws as pcs-laws
-use Rattle.pgs_segment.proofs.PdsLaws as pds-laws
 use Rattle.pgs_segment.proofs.segment.SegmentBody.numbers.Tie as tie
 use Rattle.pgs_segment.specs.declared.segment.SegmentBody.the-variants as made
 
-module _ (b : List ℕ) {k t : SegmentType} (e : k ≡ t) where
-  -- what holds of the kind that the value is
-  verdict-at : bodyVerdict k b ≡ accepted → bodyVerdict t b ≡ accepted
-  verdict-at q = sym (ap (λ (x : SegmentType). bodyVerdict x b) e) ∙ q
-
-  numbers-at : {s : SegmentBody} → s ≡ numbersOf (bodyOf t b) → s ≡ numbersOf (bodyOf k b)
-  numbers-at q = q ∙ sym (ap (λ (x : SegmentType). numbersOf (bodyOf x b)) e)
+-- the numbers of the kind that the value is
+numbers-at : (b : List ℕ) {k t : SegmentType} {s : SegmentBody} → k ≡ t → s ≡ numbersOf (bodyOf t b) → s ≡ numbersOf (bodyOf k b)
+numbers-at b e q = q ∙ sym (ap (λ (x : SegmentType). numbersOf (bodyOf x b)) e)
 
 enum-told : tie.Need-enum-told
 enum-told c = search needs
 
 numbers-requires : tie.Need-numbers-requires
-numbers-requires c κs = let b = now (c .before .before .before .args .body) in pds-laws.has-numbers b (verdict-at b (c .enum-told .given .1) (c .before .before .before .pre))
+numbers-requires c κs = search needs
 
 enum-told-2 : tie.Need-enum-told-2
 enum-told-2 c = search needs
 
 numbers-requires-2 : tie.Need-numbers-requires-2
-numbers-requires-2 c κs = let b = now (c .before .before .before .args .body) in let e = verdict-at b (c .enum-told2 .given .1) (c .before .before .before .pre) in (ods-laws.has-head b e, ods-laws.has-dimensions b e)
+numbers-requires-2 c κs = search needs
 
 enum-told-3 : tie.Need-enum-told-3
 enum-told-3 c = search needs
 
 numbers-requires-3 : tie.Need-numbers-requires-3
-numbers-requires-3 c κs = let b = now (c .before .before .before .args .body) in pcs-laws.has-numbers b (verdict-at b (c .enum-told3 .given .1) (c .before .before .before .pre))
+numbers-requires-3 c κs = search needs
 
 enum-told-4 : tie.Need-enum-told-4
 enum-told-4 c = search needs

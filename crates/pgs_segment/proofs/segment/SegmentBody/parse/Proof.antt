@@ -2,7 +2,7 @@
 -- Assumes nothing.
 use Rattle.pgs_base.proofs.Outcomes.{gave, gave-value, turned-down, gives-as, refuses-as}
 use Rattle.pgs_segment.proofs.segment.SegmentBody.parse.Statement.{statement}
-use Rattle.pgs_segment.specs.Checks.{checkedOutcome}
+use Rattle.pgs_records.specs.Checks.{checkedOutcome}
 use Rattle.pgs_segment.specs.Fields.{bodyVerdict, bodyList, bodyOf, numbersOf}
 use borrow.Author.Needs.{needs}
 use denote.Ref.{now}
@@ -19,7 +19,7 @@ enum-known-list : tie.Need-enum-known-list
 enum-known-list c = search needs
 
 numbers-requires : tie.Need-numbers-requires
-numbers-requires c κs = let b = now (c .before .before .before .before .before .args .body) in gave (bodyVerdict (c .before .before .before .before .before .args .kind) b) (bodyList (c .before .before .before .before .before .args .kind) b) (sym (ap checkedOutcome (c .before .list .given .1)) ∙ c .before .before .before .check-body .ensures)
+numbers-requires c κs = search needs
 
 returns : tie.Need-returns
 returns c = let b = now (c .before .before .before .before .before .args .body) in let k = c .before .before .before .before .before .args .kind in refuses-as (numbersOf (bodyOf k b), bodyList k b) (turned-down (bodyVerdict k b) (bodyList k b) (sym (ap checkedOutcome (c .before .why .given .1)) ∙ c .before .before .before .check-body .ensures))

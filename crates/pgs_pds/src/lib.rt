@@ -1,0 +1,2 @@
+// The body of a PDS (01, module 3).
+pub mod pds;
