@@ -8,11 +8,11 @@ use Rattle.pgs_calls.specs.Calls.{codeOf, becomes, ListCall}
 use Rattle.pgs_cells_ods.specs.OdsCells.{odsCells}
 use Rattle.pgs_cells.specs.PcsCells.{pcsCells}
 use Rattle.pgs_cells.specs.PdsCells.{pdsCells}
-use Rattle.pgs_segment.specs.OdsBody.{odsOf, odsVerdict, odsList}
-use Rattle.pgs_segment.specs.PcsBody.{pcsOf, pcsVerdict, placementCount, placementRows}
-use Rattle.pgs_segment.specs.PdsBody.{pdsOf, pdsVerdict, entryCount, entryRows}
+use Rattle.pgs_ods.specs.OdsBody.{odsOf, odsVerdict, odsList}
+use Rattle.pgs_pcs.specs.PcsBody.{pcsOf, pcsVerdict, placementCount, placementRows}
+use Rattle.pgs_pds.specs.PdsBody.{pdsOf, pdsVerdict, entryCount, entryRows}
 use Rattle.pgs_stream.specs.Stream.{streamVerdict, segmentCount, segmentRows}
-use Rattle.pgs_segment.specs.WdsBody.{wdsVerdict, windowCount, windowRows}
+use Rattle.pgs_wds.specs.WdsBody.{wdsVerdict, windowCount, windowRows}
 
 -- the stream: its records, and how many
 abbrev pub SegmentsCall : List ℕ → List (List ℕ) → List (List ℕ) → ℕ → ℕ → ℕ → Type 0

@@ -2,16 +2,16 @@
 use pgs_cells::pcs::pcs_cells;
 use pgs_cells::pds::pds_cells;
 use pgs_cells_ods::ods::ods_cells;
-use pgs_segment::ods::Ods;
-use pgs_segment::ods::OdsAnswer;
-use pgs_segment::pcs::Pcs;
-use pgs_segment::pcs::PcsAnswer;
-use pgs_segment::pds::Pds;
-use pgs_segment::pds::PdsAnswer;
-use pgs_segment::wds::Wds;
-use pgs_segment::wds::WdsAnswer;
+use pgs_ods::ods::Ods;
+use pgs_ods::ods::OdsAnswer;
+use pgs_pcs::pcs::Pcs;
+use pgs_pcs::pcs::PcsAnswer;
+use pgs_pds::pds::Pds;
+use pgs_pds::pds::PdsAnswer;
 use pgs_stream::stream::StreamAnswer;
 use pgs_stream::stream::parse_segments;
+use pgs_wds::wds::Wds;
+use pgs_wds::wds::WdsAnswer;
 ghost use Rattle.pgs_c_segment.specs.Segments.{
   SegmentsCall,
   PcsCall,

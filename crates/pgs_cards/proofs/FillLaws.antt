@@ -12,7 +12,7 @@ use Rattle.pgs_base.proofs.Front.{Front, begins, filled}
 use Rattle.pgs_base.proofs.Outcomes.{first-accepts, second-holds, gave-value, turned-down}
 use Rattle.pgs_segment.specs.Fields.{bodyOf, numbersOf}
 use Rattle.pgs_segment.specs.Header.{ptsOf}
-use Rattle.pgs_segment.specs.OdsBody.{odsOf}
+use Rattle.pgs_ods.specs.OdsBody.{odsOf}
 use Rattle.pgs_segment.specs.OneSegment.{segmentType, segmentVerdict, bodyAt, usedBy, fieldsOf, segmentOf}
 use Rattle.pgs_stream.specs.Stream.{readOf, stepVerdict, streamVerdict}
 use Rattle.pgs_stream.proofs.ReadingLaws.{own-fields}

@@ -10,17 +10,17 @@ use Rattle.pgs_views.specs.Fragments.{fragmentOf, isFirst}
 use Rattle.pgs_base.specs.Outcome.{accepted, andThen, pick}
 use Rattle.pgs_segment.specs.Fields.{bodyOf, numbersOf}
 use Rattle.pgs_segment.specs.Header.{ptsOf}
-use Rattle.pgs_segment.specs.OdsBody.{odsOf}
+use Rattle.pgs_ods.specs.OdsBody.{odsOf}
 use Rattle.pgs_segment.specs.OneSegment.{segmentType, bodyAt}
-use Rattle.pgs_segment.specs.PcsBody.{pcsOf}
+use Rattle.pgs_pcs.specs.PcsBody.{pcsOf}
 use Rattle.pgs_object.specs.Objects.{Fragment, Chain, isOds, fragmentAt, fragmentsFrom, opensChain, chainsOf}
 use Rattle.pgs_set.specs.Sets.{DisplaySet, groupVerdict, kindVerdict, stateAfter, isPcs, isEnd, throughEnd, setsFrom}
 use Rattle.pgs_views.specs.declared.«segment_type».SegmentType.{SegmentType}
 use Rattle.pgs_views.specs.declared.«segment_type».SegmentType.the-variants.{Pds, Ods, Pcs, Wds, End, Other}
 use Rattle.pgs_set.specs.declared.grouping.Grouping.{Grouping}
 use Rattle.pgs_set.specs.declared.grouping.Grouping.the-variants.{Outside, Inside}
-use Rattle.pgs_segment.specs.declared.ods.Ods as declared-ods
-use Rattle.pgs_segment.specs.declared.pcs.Pcs as declared-pcs
+use Rattle.pgs_ods.specs.declared.ods.Ods as declared-ods
+use Rattle.pgs_pcs.specs.declared.pcs.Pcs as declared-pcs
 use Rattle.pgs_cards.specs.Cards.{cardOf, cardWith, lineOf, linesOf}
 use Rattle.pgs_cards.specs.Walks.{adding, cardAfter, opened}
 use Rattle.pgs_cards.specs.declared.card.Card.{Card}

@@ -9,10 +9,10 @@ use Rattle.pgs_base.specs.Outcome.{Verdict, Outcome, gives, refuses, andThen, u
 use Rattle.pgs_base.specs.Refusals.{numberOf}
 use Rattle.pgs_segment.specs.Header.{ptsOf}
 use Rattle.pgs_segment.specs.OneSegment.{bodyAt}
-use Rattle.pgs_segment.specs.PcsBody.{pcsOf}
+use Rattle.pgs_pcs.specs.PcsBody.{pcsOf}
 use Rattle.pgs_object.specs.Objects.{chainsOf, fragmentsOf, allObjectsVerdict}
 use Rattle.pgs_set.specs.Sets.{DisplaySet, setsOf}
-use Rattle.pgs_segment.specs.declared.pcs.Pcs.{Pcs}
+use Rattle.pgs_pcs.specs.declared.pcs.Pcs.{Pcs}
 use Rattle.pgs_cards.specs.declared.card.Card.{Card}
 use Rattle.pgs_cards.specs.declared.cards.CardsAnswer.{CardsAnswer}
 use Rattle.pgs_cards.specs.declared.cards.CardsAnswer.the-variants.{Written, Refused}

@@ -4,7 +4,7 @@ use Prim.Native.Nat.{ℕ, _+_}
 use mathlib.Core.Bool.{Bool, true, false}
 use Rattle.pgs_views.specs.Fragments.{fragmentOf, isFirst}
 use Rattle.pgs_base.specs.Outcome.{pick}
-use Rattle.pgs_segment.specs.declared.ods.Ods.{Ods}
+use Rattle.pgs_ods.specs.declared.ods.Ods.{Ods}
 use Rattle.pgs_segment.specs.declared.segment.SegmentBody.{SegmentBody}
 use Rattle.pgs_segment.specs.declared.segment.SegmentBody.the-variants as numbers
 use Rattle.pgs_cards.specs.Cards.{cardWith}

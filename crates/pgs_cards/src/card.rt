@@ -1,5 +1,5 @@
 // A card: what one line says of a display set (01, 'Bench samples').
-use pgs_segment::ods::Ods;
+use pgs_ods::ods::Ods;
 use pgs_segment::segment::SegmentBody;
 use pgs_views::fragment_flag::FragmentFlag;
 ghost use mathlib.Core.Path.{_≡_};

@@ -6,7 +6,7 @@ use lib.ListN.{getD}
 use Rattle.pgs_base.specs.Outcome.{Outcome, gives, refuses}
 use Rattle.pgs_base.specs.Refusals.{numberOf}
 use Rattle.pgs_encoding.specs.Layout.{allFit}
-use Rattle.pgs_segment.specs.declared.pcs.Pcs.{Pcs}
+use Rattle.pgs_pcs.specs.declared.pcs.Pcs.{Pcs}
 use Rattle.pgs_cells.specs.declared.pcs.PcsNumbers.{PcsNumbers}
 use Rattle.pgs_cells.specs.declared.pcs.PcsNumbers.the-variants.{Numbers, Refused}
 

@@ -2,7 +2,7 @@
 use Prim.Native.Nat.{ℕ}
 use mathlib.Core.List.{List, [], _∷_}
 use lib.ListN.{getD}
-use Rattle.pgs_segment.specs.declared.pds.Pds.{Pds}
+use Rattle.pgs_pds.specs.declared.pds.Pds.{Pds}
 
 -- id, version
 abbrev pub pdsCells : Pds → List ℕ

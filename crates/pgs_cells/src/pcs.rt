@@ -1,6 +1,6 @@
 // The numbers of a PCS: width, height, frame rate, composition number, state, palette update flag, palette id.
 use pgs_base::refusal::Refusal;
-use pgs_segment::pcs::Pcs;
+use pgs_pcs::pcs::Pcs;
 ghost use mathlib.Core.Path.{_≡_};
 ghost use Rattle.pgs_base.specs.Outcome.{outcomeOf, unless};
 ghost use Rattle.pgs_cells.specs.PcsCells.{pcsCells, pcsFrom, pcsCellsFit, pcsNumbersOutcome};

@@ -1,5 +1,5 @@
 // The numbers of a PDS: id, version.
-use pgs_segment::pds::Pds;
+use pgs_pds::pds::Pds;
 ghost use mathlib.Core.Path.{_≡_};
 ghost use Rattle.pgs_cells.specs.PdsCells.{pdsCells, pdsFrom};
 

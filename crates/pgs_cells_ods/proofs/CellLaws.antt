@@ -8,8 +8,8 @@ use lib.ListN.{getD}
 use Rattle.pgs_base.specs.Outcome.{Verdict, gives, refuses, outcomeOf, unless}
 use Rattle.pgs_base.proofs.Outcomes.{gave, gave-value, turned-down}
 use Rattle.pgs_cells_ods.specs.OdsCells.{dimensionsFrom, dimensionsFit, odsFrom, odsCellsFit}
-use Rattle.pgs_segment.specs.declared.ods.Dimensions.{Dimensions}
-use Rattle.pgs_segment.specs.declared.ods.Dimensions.the-variants.{Absent, Present}
+use Rattle.pgs_ods.specs.declared.ods.Dimensions.{Dimensions}
+use Rattle.pgs_ods.specs.declared.ods.Dimensions.the-variants.{Absent, Present}
 
 module _ (m w h : ℕ) where
   pub absent : m ≡ 0 → gives Absent ≡ outcomeOf (unless 35 (dimensionsFit m w h)) (dimensionsFrom m w h)

@@ -7,10 +7,10 @@ use lib.ListN.{getD}
 use Rattle.pgs_base.specs.Outcome.{Outcome, gives, refuses, pick}
 use Rattle.pgs_base.specs.Refusals.{numberOf}
 use Rattle.pgs_encoding.specs.Layout.{allFit}
-use Rattle.pgs_segment.specs.declared.ods.Dimensions.{Dimensions}
-use Rattle.pgs_segment.specs.declared.ods.Dimensions.the-variants.{Absent, Present}
-use Rattle.pgs_segment.specs.declared.ods.Ods.{Ods}
-use Rattle.pgs_segment.specs.declared.segment.BodyList.{BodyList}
+use Rattle.pgs_ods.specs.declared.ods.Dimensions.{Dimensions}
+use Rattle.pgs_ods.specs.declared.ods.Dimensions.the-variants.{Absent, Present}
+use Rattle.pgs_ods.specs.declared.ods.Ods.{Ods}
+use Rattle.pgs_records.specs.declared.BodyList.{BodyList}
 use Rattle.pgs_cells_ods.specs.declared.ods.DimensionsGiven.{DimensionsGiven}
 use Rattle.pgs_cells_ods.specs.declared.ods.DimensionsGiven.the-variants as given
 use Rattle.pgs_cells_ods.specs.declared.ods.OdsNumbers.{OdsNumbers}

@@ -1,9 +1,9 @@
 // The numbers of an ODS: id, version, flag, declared length, dimensions present, width, height; a body that was read has the place and
 // the length of its data besides.
 use pgs_base::refusal::Refusal;
-use pgs_segment::ods::Dimensions;
-use pgs_segment::ods::Ods;
-use pgs_segment::segment::BodyList;
+use pgs_ods::ods::Dimensions;
+use pgs_ods::ods::Ods;
+use pgs_records::BodyList;
 ghost use mathlib.Core.Path.{_≡_};
 ghost use Rattle.pgs_base.specs.Outcome.{outcomeOf, unless};
 ghost use Rattle.pgs_cells_ods.specs.OdsCells.{

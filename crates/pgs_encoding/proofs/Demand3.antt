@@ -16,7 +16,7 @@ use Rattle.pgs_segment.specs.Fields.{SegmentFields}
 use Rattle.pgs_segment.specs.OneSegment.{usedBy, fieldsOf}
 use Rattle.pgs_stream.specs.Stream.{Reading, stepVerdict, readFirst, readOf, streamFields, joined}
 use Rattle.pgs_stream.proofs.ReadingLaws.{Each, Whole, own-fields, pieces-whole}
-use Rattle.pgs_segment.proofs.RecordLaws.{first-fits, rest-fits}
+use Rattle.pgs_records.proofs.RecordLaws.{first-fits, rest-fits}
 use Rattle.pgs_stream.proofs.StreamLaws.{read-on, read-stops, step-accepted}
 use Rattle.pgs_encoding.specs.Cut.{cutSegment, cutStream}
 use Rattle.pgs_encoding.specs.Demand3.{Accepted, SameFieldsSameCut, acceptedOf, begin, WritesOf, WritesOfAStream, WholeStream, BeginsThere}

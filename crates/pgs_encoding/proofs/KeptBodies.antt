@@ -16,18 +16,18 @@ use Rattle.pgs_base.proofs.Outcomes.{second-holds, holds}
 use Rattle.pgs_views.specs.declared.«segment_type».SegmentType.{SegmentType}
 use Rattle.pgs_views.specs.declared.«segment_type».SegmentType.the-variants as kinds
 use Rattle.pgs_segment.specs.Fields.{bodyVerdict, bodyOf}
-use Rattle.pgs_segment.specs.OdsBody.{odsOf, odsData, odsVerdict, flagOf, headSize}
-use Rattle.pgs_segment.specs.PcsBody.{pcsOf, placementOf, placementSize, placementCount, placementsOf, pcsVerdict}
-use Rattle.pgs_segment.specs.PdsBody.{entryOf, entrySize, entryCount, entriesOf, pdsVerdict}
-use Rattle.pgs_segment.specs.Records.{recordsSize}
-use Rattle.pgs_segment.specs.declared.pds.PaletteEntry.{PaletteEntry}
-use Rattle.pgs_segment.specs.declared.wds.Window.{Window}
-use Rattle.pgs_segment.specs.WdsBody.{windowOf, windowSize, windowCount, windowsOf, wdsVerdict}
-use Rattle.pgs_segment.proofs.OdsLaws as ods-laws
-use Rattle.pgs_segment.proofs.PcsLaws as pcs-laws
-use Rattle.pgs_segment.proofs.PdsLaws as pds-laws
-use Rattle.pgs_segment.proofs.RecordLaws.{records-length, size-fixed}
-use Rattle.pgs_segment.proofs.WdsLaws as wds-laws
+use Rattle.pgs_ods.specs.OdsBody.{odsOf, odsData, odsVerdict, flagOf, headSize}
+use Rattle.pgs_pcs.specs.PcsBody.{pcsOf, placementOf, placementSize, placementCount, placementsOf, pcsVerdict}
+use Rattle.pgs_pds.specs.PdsBody.{entryOf, entrySize, entryCount, entriesOf, pdsVerdict}
+use Rattle.pgs_records.specs.Records.{recordsSize}
+use Rattle.pgs_pds.specs.declared.pds.PaletteEntry.{PaletteEntry}
+use Rattle.pgs_wds.specs.declared.wds.Window.{Window}
+use Rattle.pgs_wds.specs.WdsBody.{windowOf, windowSize, windowCount, windowsOf, wdsVerdict}
+use Rattle.pgs_ods.proofs.OdsLaws as ods-laws
+use Rattle.pgs_pcs.proofs.PcsLaws as pcs-laws
+use Rattle.pgs_pds.proofs.PdsLaws as pds-laws
+use Rattle.pgs_records.proofs.RecordLaws.{records-length, size-fixed}
+use Rattle.pgs_wds.proofs.WdsLaws as wds-laws
 use Rattle.pgs_encoding.specs.Encode.{bodyBytes, pcsFields, placementFields, windowFields, entryFields, odsFields}
 use Rattle.pgs_encoding.specs.Layout.{written, allFit, each}
 use Rattle.pgs_encoding.specs.Writable.{bodyWritable, placementWritable, unknownKind}

@@ -11,7 +11,7 @@ use lib.ListN.{length, take, drop, length-append, length-drop}
 use lib.Seq.{take-add, drop-drop, length-take-le}
 use Rattle.pgs_base.specs.Bytes.{big, num, bytesOf, Bytes}
 use Rattle.pgs_base.proofs.Digits.{length-bytes, num-bytes, bytes-num, bytes-take, bytes-drop}
-use Rattle.pgs_segment.proofs.RecordLaws.{first-fits, rest-fits}
+use Rattle.pgs_records.proofs.RecordLaws.{first-fits, rest-fits}
 use Rattle.pgs_encoding.specs.Layout.{Field, written, allFit}
 
 -- the numbers of fields of these widths, from a place on

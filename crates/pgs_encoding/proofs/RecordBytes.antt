@@ -10,8 +10,8 @@ use lib.ListN.{length, take, drop, length-append, length-drop}
 use lib.Seq.{take-add, drop-at}
 use Rattle.pgs_base.specs.Bytes.{Bytes}
 use Rattle.pgs_base.proofs.Digits.{bytes-drop}
-use Rattle.pgs_segment.specs.Records.{records, recordsFit, recordsSize}
-use Rattle.pgs_segment.proofs.RecordLaws.{first-fits, rest-fits}
+use Rattle.pgs_records.specs.Records.{records, recordsFit, recordsSize}
+use Rattle.pgs_records.proofs.RecordLaws.{first-fits, rest-fits}
 use Rattle.pgs_encoding.specs.Layout.{Field, written, each, recordBytes}
 
 module _ {A : Type 0} (fields : A → List Field) (read : List ℕ → A) (size : List ℕ → ℕ) (test : A → Bool) where

@@ -7,15 +7,15 @@ use native.Mathlib.Omega.{arith}
 use borrow.Author.Tests.{not-true}
 use lib.Dec.{eqb}
 use lib.ListN.{length, take, getD}
-use Rattle.pgs_segment.specs.PcsBody.{cropped, croppingOf, placementOf, placementSize}
-use Rattle.pgs_segment.specs.PdsBody.{entryOf, entrySize}
-use Rattle.pgs_segment.specs.WdsBody.{windowOf, windowSize}
-use Rattle.pgs_segment.proofs.RecordLaws.{first-fits, rest-fits}
-use Rattle.pgs_segment.specs.declared.pcs.CompositionObject.{CompositionObject}
-use Rattle.pgs_segment.specs.declared.pcs.Cropping.{Cropping}
-use Rattle.pgs_segment.specs.declared.pcs.Cropping.the-variants.{Uncropped, Cropped}
-use Rattle.pgs_segment.specs.declared.pds.PaletteEntry.{PaletteEntry}
-use Rattle.pgs_segment.specs.declared.wds.Window.{Window}
+use Rattle.pgs_pcs.specs.PcsBody.{cropped, croppingOf, placementOf, placementSize}
+use Rattle.pgs_pds.specs.PdsBody.{entryOf, entrySize}
+use Rattle.pgs_wds.specs.WdsBody.{windowOf, windowSize}
+use Rattle.pgs_records.proofs.RecordLaws.{first-fits, rest-fits}
+use Rattle.pgs_pcs.specs.declared.pcs.CompositionObject.{CompositionObject}
+use Rattle.pgs_pcs.specs.declared.pcs.Cropping.{Cropping}
+use Rattle.pgs_pcs.specs.declared.pcs.Cropping.the-variants.{Uncropped, Cropped}
+use Rattle.pgs_pds.specs.declared.pds.PaletteEntry.{PaletteEntry}
+use Rattle.pgs_wds.specs.declared.wds.Window.{Window}
 use Rattle.pgs_encoding.specs.Encode.{windowFields, entryFields, placementFields, cropFields}
 use Rattle.pgs_encoding.specs.Layout.{Field, written, allFit}
 use Rattle.pgs_encoding.specs.Writable.{cropWhere, placementWritable}

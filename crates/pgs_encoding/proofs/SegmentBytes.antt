@@ -19,10 +19,10 @@ use Rattle.pgs_views.specs.declared.«segment_type».SegmentType.the-variants a
 use Rattle.pgs_segment.specs.Fields.{SegmentFields, bodyVerdict, bodyOf, kindByte}
 use Rattle.pgs_segment.specs.Header.{ptsOf, dtsOf, kindOf, sizeOf, marked}
 use Rattle.pgs_segment.specs.OneSegment.{segmentType, usedBy, bodyAt, segmentVerdict, fieldsOf}
-use Rattle.pgs_segment.specs.PcsBody.{placementSize}
-use Rattle.pgs_segment.specs.Records.{recordsSize}
+use Rattle.pgs_pcs.specs.PcsBody.{placementSize}
+use Rattle.pgs_records.specs.Records.{recordsSize}
 use Rattle.pgs_stream.proofs.ReadingLaws.{Whole, kind-byte}
-use Rattle.pgs_segment.proofs.RecordLaws.{first-fits, rest-fits}
+use Rattle.pgs_records.proofs.RecordLaws.{first-fits, rest-fits}
 use Rattle.pgs_segment.proofs.SegmentLaws.{has-header, accepted-head, accepted-body, accepted-mark}
 use Rattle.pgs_encoding.specs.Cut.{keptPlacement, keptPlacements, kept, cutSegment}
 use Rattle.pgs_encoding.specs.Encode.{headFields, bodyBytes, encode}

@@ -14,20 +14,20 @@ use Rattle.pgs_views.proofs.Views.{raw-type}
 use Rattle.pgs_views.specs.declared.«segment_type».SegmentType.{SegmentType}
 use Rattle.pgs_views.specs.declared.«segment_type».SegmentType.the-variants as kinds
 use Rattle.pgs_segment.specs.Fields.{BodyFields, pcs, wds, pds, ods, end, other, bodyVerdict, bodyOf, kindByte}
-use Rattle.pgs_segment.specs.OdsBody.{odsOf, odsData, odsVerdict, flagOf, headSize, dimensionsOf}
-use Rattle.pgs_segment.specs.PcsBody.{pcsOf, placementOf, placementSize, placementCount, placementsOf}
-use Rattle.pgs_segment.specs.PdsBody.{pdsOf, entryOf, entrySize, entryCount, entriesOf}
-use Rattle.pgs_segment.specs.Records.{records, recordsFit}
-use Rattle.pgs_segment.specs.WdsBody.{windowOf, windowSize, windowCount, windowsOf}
-use Rattle.pgs_segment.specs.declared.ods.Dimensions.{Dimensions}
-use Rattle.pgs_segment.specs.declared.ods.Dimensions.the-variants.{Absent, Present}
-use Rattle.pgs_segment.specs.declared.ods.Ods.{Ods}
-use Rattle.pgs_segment.specs.declared.pcs.CompositionObject.{CompositionObject}
-use Rattle.pgs_segment.specs.declared.pcs.Pcs.{Pcs}
-use Rattle.pgs_segment.specs.declared.pds.PaletteEntry.{PaletteEntry}
-use Rattle.pgs_segment.specs.declared.pds.Pds.{Pds}
-use Rattle.pgs_segment.specs.declared.wds.Window.{Window}
-use Rattle.pgs_segment.proofs.RecordLaws.{first-fits, rest-fits}
+use Rattle.pgs_ods.specs.OdsBody.{odsOf, odsData, odsVerdict, flagOf, headSize, dimensionsOf}
+use Rattle.pgs_pcs.specs.PcsBody.{pcsOf, placementOf, placementSize, placementCount, placementsOf}
+use Rattle.pgs_pds.specs.PdsBody.{pdsOf, entryOf, entrySize, entryCount, entriesOf}
+use Rattle.pgs_records.specs.Records.{records, recordsFit}
+use Rattle.pgs_wds.specs.WdsBody.{windowOf, windowSize, windowCount, windowsOf}
+use Rattle.pgs_ods.specs.declared.ods.Dimensions.{Dimensions}
+use Rattle.pgs_ods.specs.declared.ods.Dimensions.the-variants.{Absent, Present}
+use Rattle.pgs_ods.specs.declared.ods.Ods.{Ods}
+use Rattle.pgs_pcs.specs.declared.pcs.CompositionObject.{CompositionObject}
+use Rattle.pgs_pcs.specs.declared.pcs.Pcs.{Pcs}
+use Rattle.pgs_pds.specs.declared.pds.PaletteEntry.{PaletteEntry}
+use Rattle.pgs_pds.specs.declared.pds.Pds.{Pds}
+use Rattle.pgs_wds.specs.declared.wds.Window.{Window}
+use Rattle.pgs_records.proofs.RecordLaws.{first-fits, rest-fits}
 use Rattle.pgs_encoding.specs.Encode.{bodyBytes, pcsFields, placementFields, windowFields, pdsFields, entryFields, odsFields, dimensionFields}
 use Rattle.pgs_encoding.specs.Layout.{Field, written, allFit, each, recordBytes}
 use Rattle.pgs_encoding.specs.Writable.{bodyWritable, placementWritable, unknownKind, dimensionsWhere}

@@ -12,12 +12,12 @@ use Rattle.pgs_base.specs.Outcome.{Verdict, unless, pick}
 use Rattle.pgs_views.specs.declared.«segment_type».SegmentType.{SegmentType}
 use Rattle.pgs_views.specs.declared.«segment_type».SegmentType.the-variants as kinds
 use Rattle.pgs_segment.specs.Fields.{BodyFields, pcs, wds, pds, ods, end, other, SegmentFields, kindByte}
-use Rattle.pgs_segment.specs.declared.ods.Dimensions.{Dimensions}
-use Rattle.pgs_segment.specs.declared.ods.Dimensions.the-variants.{Absent, Present}
-use Rattle.pgs_segment.specs.declared.ods.Ods.{Ods}
-use Rattle.pgs_segment.specs.declared.pcs.CompositionObject.{CompositionObject}
-use Rattle.pgs_segment.specs.declared.pcs.Cropping.{Cropping}
-use Rattle.pgs_segment.specs.declared.pcs.Cropping.the-variants.{Uncropped, Cropped}
+use Rattle.pgs_ods.specs.declared.ods.Dimensions.{Dimensions}
+use Rattle.pgs_ods.specs.declared.ods.Dimensions.the-variants.{Absent, Present}
+use Rattle.pgs_ods.specs.declared.ods.Ods.{Ods}
+use Rattle.pgs_pcs.specs.declared.pcs.CompositionObject.{CompositionObject}
+use Rattle.pgs_pcs.specs.declared.pcs.Cropping.{Cropping}
+use Rattle.pgs_pcs.specs.declared.pcs.Cropping.the-variants.{Uncropped, Cropped}
 use Rattle.pgs_encoding.specs.Encode.{headFields, placementFields, pcsFields, windowFields, pdsFields, entryFields, odsFields, bodyBytes}
 use Rattle.pgs_encoding.specs.Layout.{allFit, each}
 

@@ -13,7 +13,7 @@ use Rattle.pgs_base.proofs.Outcomes.{gave-value, turned-down, first-accepts, se
 use Rattle.pgs_segment.specs.Fields.{bodyVerdict}
 use Rattle.pgs_segment.specs.Header.{sizeOf}
 use Rattle.pgs_views.specs.Fragments.{fragmentOf, isFirst, isLast}
-use Rattle.pgs_segment.specs.OdsBody.{flagOf, headSize, odsOf, odsData, odsList, odsVerdict}
+use Rattle.pgs_ods.specs.OdsBody.{flagOf, headSize, odsOf, odsData, odsList, odsVerdict}
 use Rattle.pgs_segment.specs.OneSegment.{segmentType, segmentVerdict, usedBy, bodyAt}
 use Rattle.pgs_stream.specs.Stream.{stepVerdict}
 use Rattle.pgs_segment.proofs.SegmentLaws.{accepted-body}
@@ -21,8 +21,8 @@ use Rattle.pgs_stream.proofs.StreamLaws.{step-within}
 use Rattle.pgs_views.specs.declared.«segment_type».SegmentType.{SegmentType}
 use Rattle.pgs_views.specs.declared.«segment_type».SegmentType.the-variants.{Pds, Ods, Pcs, Wds, End, Other}
 use Rattle.pgs_views.specs.declared.«fragment_flag».FragmentFlag.{FragmentFlag}
-use Rattle.pgs_segment.specs.declared.ods.Ods as declared-ods
-use Rattle.pgs_segment.specs.declared.segment.BodyList.{BodyList}
+use Rattle.pgs_ods.specs.declared.ods.Ods as declared-ods
+use Rattle.pgs_records.specs.declared.BodyList.{BodyList}
 use Rattle.pgs_set.proofs.Choices.{pick-first, pick-second}
 use Rattle.pgs_set.proofs.WalkLaws.{step-length, pieces-here, type-of-piece, piece-length, head-field, within-here}
 use Rattle.pgs_object.specs.Objects.{Fragment, isOds, fragmentAt, fragmentsFrom, dataPlace, widthIn, heightIn}

@@ -8,13 +8,13 @@ use lib.Dec.{leb, ltb, eqb}
 use lib.ListN.{length}
 use Rattle.pgs_base.specs.Outcome.{Verdict, accepted, refused, andThen, unless, pick}
 use Rattle.pgs_views.specs.Fragments.{fragmentOf, isFirst, isLast}
-use Rattle.pgs_segment.specs.OdsBody.{headSize, odsOf, odsData}
+use Rattle.pgs_ods.specs.OdsBody.{headSize, odsOf, odsData}
 use Rattle.pgs_segment.specs.OneSegment.{segmentType, bodyAt}
 use Rattle.pgs_views.specs.declared.«segment_type».SegmentType.{SegmentType}
 use Rattle.pgs_views.specs.declared.«segment_type».SegmentType.the-variants.{Pds, Ods, Pcs, Wds, End, Other}
-use Rattle.pgs_segment.specs.declared.ods.Dimensions.{Dimensions}
-use Rattle.pgs_segment.specs.declared.ods.Dimensions.the-variants.{Absent, Present}
-use Rattle.pgs_segment.specs.declared.ods.Ods as declared-ods
+use Rattle.pgs_ods.specs.declared.ods.Dimensions.{Dimensions}
+use Rattle.pgs_ods.specs.declared.ods.Dimensions.the-variants.{Absent, Present}
+use Rattle.pgs_ods.specs.declared.ods.Ods as declared-ods
 use Rattle.pgs_set.specs.Sets.{DisplaySet, setsOf, setNumber, setCount, setsVerdict}
 
 -- a fragment: an ODS segment with its place in the stream, its numbers and its data bytes

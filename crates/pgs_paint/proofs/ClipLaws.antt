@@ -8,8 +8,8 @@ use native.Mathlib.Omega.{arith}
 use borrow.Author.Tests.{le-leb, lt-leb, lt-ltb, ltb-true}
 use lib.Dec.{ltb}
 use Rattle.pgs_base.specs.Outcome.{pick}
-use Rattle.pgs_segment.specs.declared.pcs.CompositionObjectCrop.{CompositionObjectCrop}
-use Rattle.pgs_segment.specs.declared.pcs.CompositionObject.{CompositionObject}
+use Rattle.pgs_pcs.specs.declared.pcs.CompositionObjectCrop.{CompositionObjectCrop}
+use Rattle.pgs_pcs.specs.declared.pcs.CompositionObject.{CompositionObject}
 use Rattle.pgs_plane.specs.Placing.{Image, indexAt, partOf, covered, partShown, indexShown}
 use Rattle.pgs_paint.specs.Clipping.{Visible, Bounds, Exactly}
 use Rattle.pgs_paint.specs.declared.paint.Shown.{Shown}

@@ -1,9 +1,9 @@
 // One placement painted onto a plane of pixels, R, G, B and alpha, row by row.
 use pgs_base::refusal::Refusal;
+use pgs_pcs::pcs::CompositionObject;
+use pgs_pcs::pcs::CompositionObjectCrop;
+use pgs_pcs::pcs::Cropping;
 use pgs_plane::plane::Painted;
-use pgs_segment::pcs::CompositionObject;
-use pgs_segment::pcs::CompositionObjectCrop;
-use pgs_segment::pcs::Cropping;
 ghost use mathlib.Core.Path.{_≡_};
 ghost use mathlib.Core.List.{List};
 ghost use Prim.Native.Nat.{ℕ, _*_, _≤_, _<_};

@@ -5,7 +5,7 @@ use mathlib.Core.Option.{Option, none, some}
 use Prim.Native.Nat.{ℕ, suc, _+_}
 use native.Mathlib.Omega.{arith}
 use lib.ListN.{length}
-use Rattle.pgs_segment.specs.declared.pcs.CompositionObject.{CompositionObject}
+use Rattle.pgs_pcs.specs.declared.pcs.CompositionObject.{CompositionObject}
 use Rattle.pgs_plane.specs.Placing.{Image, indexShown}
 use Rattle.pgs_plane.specs.Pictures.{Covering, numbered, orElse, coveringFrom, coveringAt}
 

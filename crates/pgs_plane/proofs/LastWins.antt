@@ -5,7 +5,7 @@ use mathlib.Core.Option.{Option, none, some}
 use Prim.Native.Nat.{ℕ, suc, _+_, _*_}
 use lib.ListN.{length, drop}
 use lib.Seq.{drop-at}
-use Rattle.pgs_segment.specs.declared.pcs.CompositionObject.{CompositionObject}
+use Rattle.pgs_pcs.specs.declared.pcs.CompositionObject.{CompositionObject}
 use Rattle.pgs_plane.specs.Strips.{strip, pieces}
 use Rattle.pgs_plane.specs.Placing.{Image, indexShown}
 use Rattle.pgs_plane.specs.Pictures.{Picture, Layer, planeOf, transparent, colorOver, rowPainted, painted, Covering, numbered, indexOf, orElse, coveringFrom, planeShown, cleared, paintedAll}

@@ -7,7 +7,7 @@ use lib.Dec.{leb}
 use lib.ListN.{length}
 use Rattle.pgs_base.specs.Outcome.{Verdict, accepted, refused, unless, pick}
 use Rattle.pgs_base.specs.Refusals.{numberOf}
-use Rattle.pgs_segment.specs.declared.pcs.CompositionObject.{CompositionObject}
+use Rattle.pgs_pcs.specs.declared.pcs.CompositionObject.{CompositionObject}
 use Rattle.pgs_plane.specs.Placing.{Image, indexShown, tableColor}
 use Rattle.pgs_plane.specs.Pictures.{cleared, painted}
 use Rattle.pgs_plane.specs.declared.plane.Painted.{Painted}

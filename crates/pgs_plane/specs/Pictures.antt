@@ -3,7 +3,7 @@ use mathlib.Core.List.{List, [], _∷_, _++_}
 use mathlib.Core.Option.{Option, none, some}
 use Prim.Native.Nat.{ℕ, suc, _*_}
 use lib.ListN.{drop}
-use Rattle.pgs_segment.specs.declared.pcs.CompositionObject.{CompositionObject}
+use Rattle.pgs_pcs.specs.declared.pcs.CompositionObject.{CompositionObject}
 use Rattle.pgs_plane.specs.Strips.{strip, pieces}
 use Rattle.pgs_plane.specs.Placing.{Image, indexShown}
 

@@ -15,8 +15,8 @@ use Rattle.pgs_palette.specs.Palette.{entryOf, lookup, orElse}
 use Rattle.pgs_palette.proofs.Laying.{lookup-append}
 use Rattle.pgs_segment.specs.Header.{sizeOf}
 use Rattle.pgs_segment.specs.OneSegment.{segmentType, usedBy, bodyAt}
-use Rattle.pgs_segment.specs.PdsBody as pds
-use Rattle.pgs_segment.specs.Records.{records}
+use Rattle.pgs_pds.specs.PdsBody as pds
+use Rattle.pgs_records.specs.Records.{records}
 use Rattle.pgs_stream.specs.Stream.{stepVerdict, readFirst, readOf}
 use Rattle.pgs_stream.proofs.ReadingLaws.{Each}
 use Rattle.pgs_set.specs.Sets.{isEnd, throughEnd}

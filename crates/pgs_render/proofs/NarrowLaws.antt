@@ -10,9 +10,9 @@ use Rattle.pgs_views.specs.Fragments.{fragmentOf, isFirst}
 use Rattle.pgs_base.specs.Outcome.{pick}
 use Rattle.pgs_base.proofs.Digits.{bytes-take, bytes-drop}
 use Rattle.pgs_segment.specs.Header.{sizeOf}
-use Rattle.pgs_segment.specs.OdsBody.{flagOf}
+use Rattle.pgs_ods.specs.OdsBody.{flagOf}
 use Rattle.pgs_segment.specs.OneSegment.{bodyAt}
-use Rattle.pgs_segment.specs.declared.ods.Dimensions.the-variants.{Absent, Present}
+use Rattle.pgs_ods.specs.declared.ods.Dimensions.the-variants.{Absent, Present}
 use Rattle.pgs_object.specs.Objects.{Fragment, Chain, widthIn, heightIn, widthOf, heightOf, objectsOf}
 use Rattle.pgs_object.specs.Reassembly.{copiedData, rowsFrom, objectRows}
 use Rattle.pgs_object.proofs.ObjectLaws.{Begins, AllBegin}

@@ -16,12 +16,12 @@ use Rattle.pgs_color.specs.Bytes.{rgbOf}
 use Rattle.pgs_segment.specs.Fields.{bodyVerdict}
 use Rattle.pgs_segment.specs.Header.{ptsOf, headerFields, headerOf}
 use Rattle.pgs_segment.specs.OneSegment.{segmentType, segmentVerdict, usedBy, bodyAt}
-use Rattle.pgs_segment.specs.PcsBody.{placementOf, placementSize, placementRow, placementCount, placementsOf, placementRows, pcsOf, pcsVerdict}
+use Rattle.pgs_pcs.specs.PcsBody.{placementOf, placementSize, placementRow, placementCount, placementsOf, placementRows, pcsOf, pcsVerdict}
 use Rattle.pgs_stream.specs.Stream.{stepVerdict}
 use Rattle.pgs_segment.specs.declared.header.SegmentHeader.{SegmentHeader}
-use Rattle.pgs_segment.specs.declared.pcs.Pcs as composition
+use Rattle.pgs_pcs.specs.declared.pcs.Pcs as composition
 use Rattle.pgs_stream.proofs.ReadingLaws.{own-body}
-use Rattle.pgs_segment.proofs.RecordLaws.{records-length}
+use Rattle.pgs_records.proofs.RecordLaws.{records-length}
 use Rattle.pgs_segment.proofs.SegmentLaws.{accepted-body}
 use Rattle.pgs_object.specs.Objects.{Chain, objectsOf, objectsVerdict, objectLimit, fragmentsOf, fragmentsVerdict}
 use Rattle.pgs_set.specs.Sets.{setNumber, setVerdict, DisplaySet, kindVerdict, throughEnd, setsVerdict, setCount, setRow}

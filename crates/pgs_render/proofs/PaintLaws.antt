@@ -14,9 +14,9 @@ use Rattle.pgs_plane.specs.Pictures.{painted, paintedAll}
 use Rattle.pgs_plane.specs.Placing.{indexShown, tableColor}
 use Rattle.pgs_plane.specs.declared.plane.Painted.{Painted}
 use Rattle.pgs_plane.proofs.CallLaws.{all-fit}
-use Rattle.pgs_segment.specs.declared.pcs.Cropping.{Cropping}
-use Rattle.pgs_segment.specs.declared.pcs.Cropping.the-variants.{Uncropped, Cropped}
-use Rattle.pgs_segment.specs.declared.pcs.CompositionObject.{CompositionObject}
+use Rattle.pgs_pcs.specs.declared.pcs.Cropping.{Cropping}
+use Rattle.pgs_pcs.specs.declared.pcs.Cropping.the-variants.{Uncropped, Cropped}
+use Rattle.pgs_pcs.specs.declared.pcs.CompositionObject.{CompositionObject}
 use Rattle.pgs_object.proofs.Lists.{drop-next}
 use Rattle.pgs_render.specs.Rows.{rowArea, rowsArea, bitmapAt, imageAt, lookAt, croppingIn, placementIn}
 use Rattle.pgs_render.specs.declared.painting.Bitmap.{Bitmap}

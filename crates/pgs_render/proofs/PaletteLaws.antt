@@ -19,8 +19,8 @@ use Rattle.pgs_base.proofs.Lists.{to-end}
 use Rattle.pgs_segment.specs.Fields.{bodyVerdict}
 use Rattle.pgs_segment.specs.Header.{headerVerdict, headerFields, headerOf}
 use Rattle.pgs_segment.specs.OneSegment.{segmentType, segmentVerdict, usedBy, bodyAt}
-use Rattle.pgs_segment.specs.PdsBody as pds
-use Rattle.pgs_segment.specs.Records.{records}
+use Rattle.pgs_pds.specs.PdsBody as pds
+use Rattle.pgs_records.specs.Records.{records}
 use Rattle.pgs_stream.specs.Stream.{stepVerdict}
 use Rattle.pgs_segment.specs.declared.header.SegmentHeader.{SegmentHeader}
 use Rattle.pgs_stream.proofs.ReadingLaws.{own-body}

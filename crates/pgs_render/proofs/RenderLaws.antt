@@ -24,9 +24,9 @@ use Rattle.pgs_plane.specs.Strips.{strip}
 use Rattle.pgs_plane.specs.declared.plane.Painted.{Painted}
 use Rattle.pgs_plane.proofs.LastWins.{last-wins}
 use Rattle.pgs_plane.proofs.StripLaws.{strip-length}
-use Rattle.pgs_segment.specs.PcsBody.{placementRow}
-use Rattle.pgs_segment.specs.declared.pcs.CompositionObject.{CompositionObject}
-use Rattle.pgs_segment.specs.declared.pcs.Pcs.{Pcs}
+use Rattle.pgs_pcs.specs.PcsBody.{placementRow}
+use Rattle.pgs_pcs.specs.declared.pcs.CompositionObject.{CompositionObject}
+use Rattle.pgs_pcs.specs.declared.pcs.Pcs.{Pcs}
 use Rattle.pgs_object.specs.Objects.{Chain, dataOf, widthOf, heightOf, objectsOf, objectsVerdict}
 use Rattle.pgs_set.specs.Sets.{setNumber, DisplaySet, throughEnd}
 use Rattle.pgs_object.specs.Reassembly.{joinedData, objectRows, shownBy, Reassembled}

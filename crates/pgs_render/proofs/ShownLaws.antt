@@ -12,10 +12,10 @@ use Rattle.pgs_bitmap.specs.Bitmap.{readingOf, bitmapOf}
 use Rattle.pgs_bitmap.proofs.BitmapArea.{bitmap-area}
 use Rattle.pgs_plane.specs.Pictures.{Layer, painted, paintedAll}
 use Rattle.pgs_plane.specs.Placing.{Image, imageOf, partOf, partShown, indexShown}
-use Rattle.pgs_segment.specs.PcsBody.{cropCells, placementRow}
-use Rattle.pgs_segment.specs.declared.pcs.Cropping.{Cropping}
-use Rattle.pgs_segment.specs.declared.pcs.Cropping.the-variants.{Uncropped, Cropped}
-use Rattle.pgs_segment.specs.declared.pcs.CompositionObject.{CompositionObject}
+use Rattle.pgs_pcs.specs.PcsBody.{cropCells, placementRow}
+use Rattle.pgs_pcs.specs.declared.pcs.Cropping.{Cropping}
+use Rattle.pgs_pcs.specs.declared.pcs.Cropping.the-variants.{Uncropped, Cropped}
+use Rattle.pgs_pcs.specs.declared.pcs.CompositionObject.{CompositionObject}
 use Rattle.pgs_object.specs.Objects.{Chain, objectId, widthOf, heightOf, dataOf}
 use Rattle.pgs_object.specs.Reassembly.{copiedData, rowsFrom}
 use Rattle.pgs_render.specs.Images.{imageIn, lookIn, bitmapsOf, bitmapsVerdict}

@@ -7,7 +7,7 @@ use Rattle.pgs_base.specs.Outcome.{pick}
 use Rattle.pgs_views.specs.declared.«segment_type».SegmentType.{SegmentType}
 use Rattle.pgs_views.specs.declared.«segment_type».SegmentType.the-variants.{Pds, Ods, Pcs, Wds, End, Other}
 use Rattle.pgs_segment.specs.OneSegment.{segmentType, bodyAt}
-use Rattle.pgs_segment.specs.PdsBody.{entryRows, pdsOf}
+use Rattle.pgs_pds.specs.PdsBody.{entryRows, pdsOf}
 use Rattle.pgs_palette.specs.Palette.{Entry, entryOf, applying, Conversion, colorAt}
 use Rattle.pgs_palette.specs.Table.{pixelOf}
 

@@ -12,9 +12,9 @@ use Rattle.pgs_plane.specs.Pictures.{planeShown}
 use Rattle.pgs_plane.specs.Placing.{Image}
 use Rattle.pgs_segment.specs.Header.{ptsOf}
 use Rattle.pgs_segment.specs.OneSegment.{bodyAt}
-use Rattle.pgs_segment.specs.PcsBody.{pcsOf, placementsOf}
-use Rattle.pgs_segment.specs.declared.pcs.CompositionObject.{CompositionObject}
-use Rattle.pgs_segment.specs.declared.pcs.Pcs.{Pcs}
+use Rattle.pgs_pcs.specs.PcsBody.{pcsOf, placementsOf}
+use Rattle.pgs_pcs.specs.declared.pcs.CompositionObject.{CompositionObject}
+use Rattle.pgs_pcs.specs.declared.pcs.Pcs.{Pcs}
 use Rattle.pgs_object.specs.Objects.{Chain}
 use Rattle.pgs_object.specs.Reassembly.{joinedData}
 use Rattle.pgs_set.specs.Sets.{DisplaySet}

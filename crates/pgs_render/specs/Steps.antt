@@ -7,8 +7,8 @@ use Rattle.pgs_base.specs.Outcome.{Verdict, accepted, laid}
 use Rattle.pgs_color.specs.Bytes.{rgbOf}
 use Rattle.pgs_segment.specs.Header.{ptsOf}
 use Rattle.pgs_segment.specs.OneSegment.{bodyAt}
-use Rattle.pgs_segment.specs.PcsBody.{pcsVerdict, placementRow}
-use Rattle.pgs_segment.specs.declared.pcs.Pcs.{Pcs}
+use Rattle.pgs_pcs.specs.PcsBody.{pcsVerdict, placementRow}
+use Rattle.pgs_pcs.specs.declared.pcs.Pcs.{Pcs}
 use Rattle.pgs_object.specs.Objects.{objectsOf, objectsVerdict}
 use Rattle.pgs_set.specs.Sets.{setNumber, throughEnd}
 use Rattle.pgs_object.specs.Reassembly.{joinedData, objectRows}

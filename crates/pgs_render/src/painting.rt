@@ -1,8 +1,8 @@
 // The placements of a display set painted in order: 01, 'Plane'.
 use pgs_paint::paint::paint_placement;
-use pgs_segment::pcs::CompositionObject;
-use pgs_segment::pcs::CompositionObjectCrop;
-use pgs_segment::pcs::Cropping;
+use pgs_pcs::pcs::CompositionObject;
+use pgs_pcs::pcs::CompositionObjectCrop;
+use pgs_pcs::pcs::Cropping;
 ghost use mathlib.Core.Path.{_≡_};
 ghost use mathlib.Core.List.{map};
 ghost use Prim.Native.Nat.{_+_, _*_, _≤_, _<_, _^_};

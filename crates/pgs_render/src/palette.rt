@@ -10,7 +10,7 @@ ghost use mathlib.Core.List.{_∷_, []};
 ghost use Prim.Native.Nat.{_+_, _≤_};
 ghost use lib.ListN.{length, getD};
 ghost use Rattle.pgs_base.specs.Outcome.{accepted};
-ghost use Rattle.pgs_segment.specs.PdsBody.{pdsVerdict};
+ghost use Rattle.pgs_pds.specs.PdsBody.{pdsVerdict};
 ghost use Rattle.pgs_color.specs.Bytes.{rgbOf};
 ghost use Rattle.pgs_palette.specs.Table.{laid, cleared};
 ghost use Rattle.pgs_set.specs.Sets.{throughEnd};

@@ -17,7 +17,7 @@ use Rattle.pgs_base.proofs.Outcomes.{is-accepted, first-accepts}
 use Rattle.pgs_views.proofs.Views.{raw-type}
 use Rattle.pgs_segment.specs.Fields.{kindByte, bodyVerdict, bodyOf, bodyList, partOf}
 use Rattle.pgs_segment.specs.Header.{sizeOf, marked}
-use Rattle.pgs_segment.specs.OdsBody.{odsData, odsList, headSize, flagOf}
+use Rattle.pgs_ods.specs.OdsBody.{odsData, odsList, headSize, flagOf}
 use Rattle.pgs_segment.specs.OneSegment.{segmentType, usedBy, bodyAt, segmentVerdict, fieldsOf}
 use Rattle.pgs_stream.specs.Stream.{stepVerdict, before, readFirst, readOf, stoppedBy, stopPlace, streamVerdict, joined, segmentRow, rowsFrom, segmentRows}
 use Rattle.pgs_views.specs.declared.«segment_type».SegmentType.{SegmentType}

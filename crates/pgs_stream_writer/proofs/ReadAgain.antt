@@ -18,21 +18,21 @@ use Rattle.pgs_segment.specs.Fields.{pcs, wds, pds, ods, SegmentFields, bodyOf}
 use Rattle.pgs_segment.specs.Header.{sizeOf, headerFields}
 use Rattle.pgs_segment.specs.OneSegment.{segmentType, fieldsOf}
 use Rattle.pgs_segment.specs.declared.header.SegmentHeader.{SegmentHeader}
-use Rattle.pgs_segment.specs.OdsBody.{flagOf, headSize, odsOf, odsData}
-use Rattle.pgs_segment.specs.PcsBody.{placementOf, placementSize, placementRow, placementCount, placementsOf, placementRows, pcsOf, pcsVerdict}
-use Rattle.pgs_segment.specs.PdsBody.{entryOf, entrySize, entryRow, entryCount, entriesOf, entryRows, pdsOf}
-use Rattle.pgs_segment.specs.WdsBody.{windowOf, windowSize, windowRow, windowCount, windowsOf, windowRows, wdsVerdict}
-use Rattle.pgs_segment.specs.declared.ods.Ods.{Ods}
-use Rattle.pgs_segment.specs.declared.pcs.CompositionObject.{CompositionObject}
-use Rattle.pgs_segment.specs.declared.pcs.Cropping.{Cropping}
-use Rattle.pgs_segment.specs.declared.pcs.Cropping.the-variants.{Uncropped, Cropped}
-use Rattle.pgs_segment.specs.declared.pcs.Pcs.{Pcs}
-use Rattle.pgs_segment.specs.declared.pds.PaletteEntry.{PaletteEntry}
-use Rattle.pgs_segment.specs.declared.pds.Pds.{Pds}
-use Rattle.pgs_segment.specs.declared.wds.Window.{Window}
-use Rattle.pgs_segment.proofs.PcsLaws.{has-numbers}
-use Rattle.pgs_segment.proofs.WdsLaws.{has-count}
-use Rattle.pgs_segment.proofs.RecordLaws.{records-length}
+use Rattle.pgs_ods.specs.OdsBody.{flagOf, headSize, odsOf, odsData}
+use Rattle.pgs_pcs.specs.PcsBody.{placementOf, placementSize, placementRow, placementCount, placementsOf, placementRows, pcsOf, pcsVerdict}
+use Rattle.pgs_pds.specs.PdsBody.{entryOf, entrySize, entryRow, entryCount, entriesOf, entryRows, pdsOf}
+use Rattle.pgs_wds.specs.WdsBody.{windowOf, windowSize, windowRow, windowCount, windowsOf, windowRows, wdsVerdict}
+use Rattle.pgs_ods.specs.declared.ods.Ods.{Ods}
+use Rattle.pgs_pcs.specs.declared.pcs.CompositionObject.{CompositionObject}
+use Rattle.pgs_pcs.specs.declared.pcs.Cropping.{Cropping}
+use Rattle.pgs_pcs.specs.declared.pcs.Cropping.the-variants.{Uncropped, Cropped}
+use Rattle.pgs_pcs.specs.declared.pcs.Pcs.{Pcs}
+use Rattle.pgs_pds.specs.declared.pds.PaletteEntry.{PaletteEntry}
+use Rattle.pgs_pds.specs.declared.pds.Pds.{Pds}
+use Rattle.pgs_wds.specs.declared.wds.Window.{Window}
+use Rattle.pgs_pcs.proofs.PcsLaws.{has-numbers}
+use Rattle.pgs_wds.proofs.WdsLaws.{has-count}
+use Rattle.pgs_records.proofs.RecordLaws.{records-length}
 use Rattle.pgs_encoding.specs.Encode.{encode}
 use Rattle.pgs_writer_base.specs.Kinds.{wdsSegment, pdsSegment, odsSegment, pcsSegment, pcsRowsWritable, segmentWith}
 use Rattle.pgs_encoding.specs.Layout.{each}

@@ -1,15 +1,15 @@
 // One segment that is read and written again, through the public readings and the writers.
+use pgs_ods::ods::Ods;
+use pgs_ods::ods::OdsAnswer;
+use pgs_pcs::pcs::Pcs;
+use pgs_pcs::pcs::PcsAnswer;
+use pgs_pds::pds::Pds;
+use pgs_pds::pds::PdsAnswer;
 use pgs_segment::header::HeaderAnswer;
 use pgs_segment::header::SegmentHeader;
-use pgs_segment::ods::Ods;
-use pgs_segment::ods::OdsAnswer;
-use pgs_segment::pcs::Pcs;
-use pgs_segment::pcs::PcsAnswer;
-use pgs_segment::pds::Pds;
-use pgs_segment::pds::PdsAnswer;
-use pgs_segment::wds::Wds;
-use pgs_segment::wds::WdsAnswer;
 use pgs_views::segment_type::SegmentType;
+use pgs_wds::wds::Wds;
+use pgs_wds::wds::WdsAnswer;
 use pgs_writer::end::encode_end;
 use pgs_writer::ods::encode_ods;
 use pgs_writer::other::encode_other;

@@ -1,8 +1,8 @@
 // The writer of an ODS.
 use crate::data::put_data;
 use pgs_base::refusal::Refusal;
-use pgs_segment::ods::Dimensions;
-use pgs_segment::ods::Ods;
+use pgs_ods::ods::Dimensions;
+use pgs_ods::ods::Ods;
 use pgs_views::fragment_flag::FragmentFlag;
 use pgs_writer_base::head::WriteAnswer;
 use pgs_writer_base::head::put_head;

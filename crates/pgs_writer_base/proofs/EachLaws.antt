@@ -8,7 +8,7 @@ use native.Mathlib.Numerals.{add-one}
 use native.Mathlib.Omega.{arith}
 use lib.ListN.{length, drop, getD, length-append}
 use lib.Seq.{sets, length-sets, drop-cons, drop-length}
-use Rattle.pgs_segment.proofs.RecordLaws.{first-fits, rest-fits}
+use Rattle.pgs_records.proofs.RecordLaws.{first-fits, rest-fits}
 use Rattle.pgs_encoding.specs.Layout.{Field, written, each, recordBytes}
 use Rattle.pgs_writer_base.proofs.PutLaws.{sets-append}
 

@@ -10,11 +10,11 @@ use lib.ListN.{length, take, drop, getD, length-append, length-map}
 use lib.Seq.{sets}
 use Rattle.pgs_base.specs.Bytes.{bytesOf}
 use Rattle.pgs_base.specs.Outcome.{pick}
-use Rattle.pgs_segment.proofs.RecordLaws.{first-fits, rest-fits}
+use Rattle.pgs_records.proofs.RecordLaws.{first-fits, rest-fits}
 use Rattle.pgs_segment.specs.Fields.{pcs}
-use Rattle.pgs_segment.specs.declared.pcs.CompositionObjectCrop.{CompositionObjectCrop}
-use Rattle.pgs_segment.specs.declared.pcs.Cropping.the-variants.{Uncropped, Cropped}
-use Rattle.pgs_segment.specs.declared.pcs.Pcs.{Pcs}
+use Rattle.pgs_pcs.specs.declared.pcs.CompositionObjectCrop.{CompositionObjectCrop}
+use Rattle.pgs_pcs.specs.declared.pcs.Cropping.the-variants.{Uncropped, Cropped}
+use Rattle.pgs_pcs.specs.declared.pcs.Pcs.{Pcs}
 use Rattle.pgs_encoding.specs.Encode.{bodyBytes, cropFields, placementFields, pcsFields}
 use Rattle.pgs_writer_base.specs.Kinds.{pcsSegment, pcsRowsWritable, placementRowFits, placementRowsFit}
 use Rattle.pgs_encoding.specs.Layout.{Field, written, allFit, each, recordBytes}

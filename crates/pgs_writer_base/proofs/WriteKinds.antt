@@ -11,12 +11,12 @@ use Rattle.pgs_base.specs.Bytes.{bytesOf}
 use Rattle.pgs_base.specs.Outcome.{pick}
 use Rattle.pgs_segment.specs.Fields.{wds, pds, ods}
 use Rattle.pgs_views.specs.Fragments.{fragmentOf, isFirst}
-use Rattle.pgs_segment.specs.declared.ods.Dimensions.{Dimensions}
-use Rattle.pgs_segment.specs.declared.ods.Dimensions.the-variants.{Absent, Present}
-use Rattle.pgs_segment.specs.declared.ods.Ods.{Ods}
-use Rattle.pgs_segment.specs.declared.pds.PaletteEntry.{PaletteEntry}
-use Rattle.pgs_segment.specs.declared.pds.Pds.{Pds}
-use Rattle.pgs_segment.specs.declared.wds.Window.{Window}
+use Rattle.pgs_ods.specs.declared.ods.Dimensions.{Dimensions}
+use Rattle.pgs_ods.specs.declared.ods.Dimensions.the-variants.{Absent, Present}
+use Rattle.pgs_ods.specs.declared.ods.Ods.{Ods}
+use Rattle.pgs_pds.specs.declared.pds.PaletteEntry.{PaletteEntry}
+use Rattle.pgs_pds.specs.declared.pds.Pds.{Pds}
+use Rattle.pgs_wds.specs.declared.wds.Window.{Window}
 use Rattle.pgs_encoding.specs.Encode.{bodyBytes, windowFields, entryFields, pdsFields, odsFields, dimensionFields}
 use Rattle.pgs_writer_base.specs.Kinds.{wdsSegment, windowRowsFit, pdsSegment}
 use Rattle.pgs_encoding.specs.Layout.{Field, written, allFit, each, recordBytes}

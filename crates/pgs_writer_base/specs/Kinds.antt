@@ -5,9 +5,9 @@ use mathlib.Core.List.{List, map}
 use Rattle.pgs_base.specs.Outcome.{pick}
 use Rattle.pgs_segment.specs.Fields.{pcs, wds, pds, ods, end, other, SegmentFields, bodyOf}
 use Rattle.pgs_views.specs.declared.«segment_type».SegmentType.{SegmentType}
-use Rattle.pgs_segment.specs.declared.ods.Ods.{Ods}
-use Rattle.pgs_segment.specs.declared.pcs.Pcs.{Pcs}
-use Rattle.pgs_segment.specs.declared.pds.Pds.{Pds}
+use Rattle.pgs_ods.specs.declared.ods.Ods.{Ods}
+use Rattle.pgs_pcs.specs.declared.pcs.Pcs.{Pcs}
+use Rattle.pgs_pds.specs.declared.pds.Pds.{Pds}
 use Rattle.pgs_encoding.specs.Encode.{windowFields}
 use Rattle.pgs_encoding.specs.Layout.{allFit, each}
 use Rattle.pgs_writer_base.specs.Rows.{windowFrom, entryFrom, placementFrom, markFits}

@@ -1,6 +1,6 @@
 // The writer of a PDS.
 use pgs_base::refusal::Refusal;
-use pgs_segment::pds::Pds;
+use pgs_pds::pds::Pds;
 use pgs_writer_base::head::WriteAnswer;
 use pgs_writer_base::head::put_head;
 use pgs_writer_base::put::put_u8;

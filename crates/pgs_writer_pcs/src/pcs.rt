@@ -1,6 +1,6 @@
 // The writer of a PCS.
 use pgs_base::refusal::Refusal;
-use pgs_segment::pcs::Pcs;
+use pgs_pcs::pcs::Pcs;
 use pgs_writer_base::head::WriteAnswer;
 use pgs_writer_base::head::put_head;
 use pgs_writer_base::put::put_u8;

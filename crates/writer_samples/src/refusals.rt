@@ -1,8 +1,8 @@
 // Fields that no segment can hold are refused by 35, before an output that is too short is by 34.
 use crate::show;
-use pgs_segment::ods::Dimensions;
-use pgs_segment::ods::Ods;
-use pgs_segment::pcs::Pcs;
+use pgs_ods::ods::Dimensions;
+use pgs_ods::ods::Ods;
+use pgs_pcs::pcs::Pcs;
 use pgs_writer::end::encode_end;
 use pgs_writer::ods::encode_ods;
 use pgs_writer::other::encode_other;

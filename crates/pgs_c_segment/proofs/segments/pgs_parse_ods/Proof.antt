@@ -4,9 +4,9 @@ use Rattle.pgs_base.proofs.Outcomes.{gave, gave-value, turned-down}
 use Rattle.pgs_calls.proofs.CallLaws.{stays, turns, code-refused, code-accepted}
 use Rattle.pgs_c_segment.proofs.segments.pgs_parse_ods.Statement.{statement}
 use Rattle.pgs_cells_ods.specs.OdsCells.{odsCells}
-use Rattle.pgs_segment.specs.OdsBody.{odsOutcome, odsOf, odsList, odsVerdict}
-use Rattle.pgs_segment.specs.declared.ods.Ods.{Ods}
-use Rattle.pgs_segment.specs.declared.segment.BodyList.{BodyList}
+use Rattle.pgs_ods.specs.OdsBody.{odsOutcome, odsOf, odsList, odsVerdict}
+use Rattle.pgs_ods.specs.declared.ods.Ods.{Ods}
+use Rattle.pgs_records.specs.declared.BodyList.{BodyList}
 use borrow.Author.Needs.{needs}
 use denote.Ref.{now}
 use mathlib.Core.Path.{sym, ap, _∙_}

@@ -4,8 +4,8 @@ use Prim.Native.Nat.{ℕ}
 use Rattle.pgs_calls.proofs.CallLaws.{list-refused, list-accepted, down, up, value, stays, turns}
 use Rattle.pgs_c_segment.proofs.segments.pgs_parse_pcs.Statement.{statement}
 use Rattle.pgs_cells.specs.PcsCells.{pcsCells}
-use Rattle.pgs_segment.specs.PcsBody.{pcsOutcome, placementCount, pcsOf}
-use Rattle.pgs_segment.specs.declared.pcs.Pcs.{Pcs}
+use Rattle.pgs_pcs.specs.PcsBody.{pcsOutcome, placementCount, pcsOf}
+use Rattle.pgs_pcs.specs.declared.pcs.Pcs.{Pcs}
 use borrow.Author.Needs.{needs}
 use denote.Ref.{now}
 use mathlib.Core.Path.{ap, _∙_}

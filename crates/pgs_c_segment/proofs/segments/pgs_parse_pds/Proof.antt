@@ -4,8 +4,8 @@ use Prim.Native.Nat.{ℕ}
 use Rattle.pgs_calls.proofs.CallLaws.{list-refused, list-accepted, down, up, value, stays, turns}
 use Rattle.pgs_c_segment.proofs.segments.pgs_parse_pds.Statement.{statement}
 use Rattle.pgs_cells.specs.PdsCells.{pdsCells}
-use Rattle.pgs_segment.specs.PdsBody.{pdsOutcome, entryCount, pdsOf}
-use Rattle.pgs_segment.specs.declared.pds.Pds.{Pds}
+use Rattle.pgs_pds.specs.PdsBody.{pdsOutcome, entryCount, pdsOf}
+use Rattle.pgs_pds.specs.declared.pds.Pds.{Pds}
 use borrow.Author.Needs.{needs}
 use denote.Ref.{now}
 use mathlib.Core.Path.{ap, _∙_}

@@ -2,7 +2,7 @@
 -- Assumes nothing.
 use Rattle.pgs_calls.proofs.CallLaws.{list-refused, list-accepted, value}
 use Rattle.pgs_c_segment.proofs.segments.pgs_parse_wds.Statement.{statement}
-use Rattle.pgs_segment.specs.WdsBody.{wdsOutcome, windowCount}
+use Rattle.pgs_wds.specs.WdsBody.{wdsOutcome, windowCount}
 use borrow.Author.Needs.{needs}
 use denote.Ref.{now}
 use mathlib.Core.Path.{ap}

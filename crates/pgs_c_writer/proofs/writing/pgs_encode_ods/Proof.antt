@@ -5,7 +5,7 @@ use Rattle.pgs_c_told.proofs.WriteCalls.{told-call, cells-call, by-cells}
 use Rattle.pgs_cells_ods.specs.OdsCells.{odsFrom, odsCellsFit, odsNumbersOutcome}
 use Rattle.pgs_c_writer.specs.Writing.{odsCellsWritable}
 use Rattle.pgs_encoding.specs.Writable.{writable}
-use Rattle.pgs_segment.specs.declared.ods.Ods.{Ods}
+use Rattle.pgs_ods.specs.declared.ods.Ods.{Ods}
 use Rattle.pgs_writer_base.specs.Kinds.{odsSegment}
 use denote.Ref.{now}
 use mathlib.Core.Path.{sym, ap, _∙_}

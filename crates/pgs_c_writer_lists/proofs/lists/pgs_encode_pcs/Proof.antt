@@ -4,7 +4,7 @@ use borrow.Author.Needs.{needs}
 use Rattle.pgs_c_told.proofs.WriteCalls.{told-call, cells-call, by-cells}
 use Rattle.pgs_cells.specs.PcsCells.{pcsFrom, pcsCellsFit, pcsNumbersOutcome}
 use Rattle.pgs_c_writer_lists.specs.Lists.{pcsCellsWritable}
-use Rattle.pgs_segment.specs.declared.pcs.Pcs.{Pcs}
+use Rattle.pgs_pcs.specs.declared.pcs.Pcs.{Pcs}
 use Rattle.pgs_writer_base.specs.Kinds.{pcsSegment, pcsRowsWritable}
 use denote.Ref.{now}
 use mathlib.Core.Path.{sym, ap, _∙_}

@@ -1,7 +1,7 @@
 -- `part_of` meets its contract, in each of its two cases. Assumes nothing.
 use mathlib.Core.Path.{sym, ap}
 use borrow.Author.Needs.{needs}
-use Rattle.pgs_segment.specs.declared.pcs.Cropping.{Cropping}
+use Rattle.pgs_pcs.specs.declared.pcs.Cropping.{Cropping}
 use Rattle.pgs_plane.specs.Placing.{partOf}
 use Rattle.pgs_paint.proofs.paint.part_of.Statement.{statement}
 use Rattle.pgs_paint.proofs.paint.part_of.Tie as tie

@@ -10,7 +10,7 @@ use native.Mathlib.Omega.{arith}
 use denote.Ref.{now}
 use lib.ListN.{length}
 use Rattle.pgs_base.proofs.Bytes.{num-byte}
-use Rattle.pgs_segment.proofs.PdsLaws.{has-numbers}
+use Rattle.pgs_pds.proofs.PdsLaws.{has-numbers}
 use Rattle.pgs_color.specs.Bytes.{rgbOf}
 use Rattle.pgs_render.proofs.PaletteLaws.{Laying, laying, lays-within, lays-call, laid-all}
 use Rattle.pgs_render.proofs.palette.lay_palette.Statement.{statement}

@@ -4,7 +4,7 @@ use borrow.Author.Needs.{needs}
 use denote.Ref.{now}
 use mathlib.Core.Path.{refl, ap}
 use Rattle.pgs_bitmap.specs.Decoding.{outcome}
-use Rattle.pgs_segment.specs.PcsBody.{pcsOutcome}
+use Rattle.pgs_pcs.specs.PcsBody.{pcsOutcome}
 use Rattle.pgs_render.proofs.OpeningLaws.{front-within, front-length, answers, always-parsed, parsed-count, parsed-placed, parsed-answer}
 use Rattle.pgs_render.proofs.render.render_body.Statement.{statement}
 use Rattle.pgs_render.proofs.render.render_body.Tie as tie

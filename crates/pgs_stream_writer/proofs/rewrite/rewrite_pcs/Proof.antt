@@ -1,13 +1,13 @@
 -- `rewrite_pcs` gives the placements that it read to the writer.
 -- Assumes nothing.
 use borrow.Author.Needs.{needs}
-use Rattle.pgs_segment.specs.PcsBody.{placementRow, placementsOf, pcsOutcome}
+use Rattle.pgs_pcs.specs.PcsBody.{placementRow, placementsOf, pcsOutcome}
 use Rattle.pgs_stream_writer.proofs.ReadAgain.{not-refused, room, front-length, read-again, same-write, placement-back, placement-list, placement-count, few-placements, pcs-again, marked, front}
 use Rattle.pgs_stream_writer.proofs.rewrite.rewrite_pcs.Statement.{statement}
 use Rattle.pgs_writer_base.specs.Rows.{placementFrom}
 use Rattle.pgs_base.proofs.Outcomes.{delivered-value}
 use Prim.Native.Nat.{ℕ}
-use Rattle.pgs_segment.specs.declared.pcs.Pcs.{Pcs}
+use Rattle.pgs_pcs.specs.declared.pcs.Pcs.{Pcs}
 use denote.Ref.{now}
 use lib.ListN.{take}
 use mathlib.Core.Path.{ap, _∙_}

@@ -1,13 +1,13 @@
 -- `rewrite_pds` gives the entries that it read to the writer.
 -- Assumes nothing.
 use borrow.Author.Needs.{needs}
-use Rattle.pgs_segment.specs.PdsBody.{entryRow, entriesOf, pdsOutcome}
+use Rattle.pgs_pds.specs.PdsBody.{entryRow, entriesOf, pdsOutcome}
 use Rattle.pgs_stream_writer.proofs.ReadAgain.{not-refused, room, front-length, read-again, same-write, entry-back, entry-list, entry-count, few-entries, pds-again}
 use Rattle.pgs_stream_writer.proofs.rewrite.rewrite_pds.Statement.{statement}
 use Rattle.pgs_writer_base.specs.Rows.{entryFrom}
 use Rattle.pgs_base.proofs.Outcomes.{delivered-value}
 use Prim.Native.Nat.{ℕ}
-use Rattle.pgs_segment.specs.declared.pds.Pds.{Pds}
+use Rattle.pgs_pds.specs.declared.pds.Pds.{Pds}
 use denote.Ref.{now}
 use lib.ListN.{take}
 use mathlib.Core.Path.{ap, _∙_}

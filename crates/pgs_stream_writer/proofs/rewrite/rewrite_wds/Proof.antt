@@ -1,7 +1,7 @@
 -- `rewrite_wds` gives the windows that it read to the writer.
 -- Assumes nothing.
 use borrow.Author.Needs.{needs}
-use Rattle.pgs_segment.specs.WdsBody.{windowRow, windowsOf, wdsOutcome}
+use Rattle.pgs_wds.specs.WdsBody.{windowRow, windowsOf, wdsOutcome}
 use Rattle.pgs_stream_writer.proofs.ReadAgain.{not-refused, room, front-length, read-again, same-write, window-back, window-list, window-count, few-windows, wds-again}
 use Rattle.pgs_stream_writer.proofs.rewrite.rewrite_wds.Statement.{statement}
 use Rattle.pgs_writer_base.specs.Rows.{windowFrom}

@@ -2,7 +2,7 @@
 -- Assumes nothing.
 use Rattle.pgs_views.specs.Fragments.{isFirst}
 use Rattle.pgs_base.specs.Outcome.{pick}
-use Rattle.pgs_segment.specs.declared.ods.Dimensions.the-variants.{Absent, Present}
+use Rattle.pgs_ods.specs.declared.ods.Dimensions.the-variants.{Absent, Present}
 use Rattle.pgs_writer_base.proofs.FitLaws.{pick-self}
 use Rattle.pgs_writer_base.proofs.WriteKinds.{ods-long, ods-shape}
 use Rattle.pgs_writer.proofs.ods.ods_fits.Statement.{statement}

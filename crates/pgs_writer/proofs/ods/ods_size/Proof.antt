@@ -1,6 +1,6 @@
 -- `ods_size` goes by whether there are dimensions.
 -- Assumes nothing.
-use Rattle.pgs_segment.specs.declared.ods.Dimensions.{Dimensions}
+use Rattle.pgs_ods.specs.declared.ods.Dimensions.{Dimensions}
 use Rattle.pgs_writer_base.proofs.WriteKinds.{odsBase}
 use Rattle.pgs_writer.proofs.ods.ods_size.Statement.{statement}
 use Rattle.pgs_encoding.specs.Layout.{written}

@@ -1,7 +1,7 @@
 -- `put_windows` stores each record: the loop keeps `Storing`.
 -- Assumes nothing.
 use Prim.Native.Nat.{_-_}
-use Rattle.pgs_segment.proofs.RecordLaws.{first-fits}
+use Rattle.pgs_records.proofs.RecordLaws.{first-fits}
 use Rattle.pgs_writer_base.proofs.EachLaws.{each-at, Storing, storing, room, stores, stored}
 use Rattle.pgs_encoding.proofs.LayoutLaws.{length-written}
 use Rattle.pgs_writer_lists.proofs.wds.put_windows.Statement.{statement}
