@@ -1,6 +1,6 @@
 // Reads small bitmaps and prints a line for each: width/height, the data, the answer, and the whole buffer afterwards, of which only the
 // first `room` bytes were lent.
-use pgs_bitmap::bitmap::Decoded;
+use pgs_bitmap_check::bitmap::Decoded;
 
 fn print_bytes(bytes: &[u8]) {
     let mut i: usize = 0;

@@ -10,8 +10,8 @@ use lib.Dec.{eqb, ltb, leb}
 use lib.ListN.{length, replicate, length-append, length-replicate}
 use borrow.Author.Tests.{eqb-true}
 use Rattle.pgs_base.specs.Outcome.{Verdict, accepted, refused, andThen, unless, pick}
-use Rattle.pgs_bitmap.specs.RunLength.{Code, run, lineEnd, codesOf, pixelsOf}
-use Rattle.pgs_bitmap.specs.Bitmap.{counted, stopped, atEnd, readFrom, readingOf, bitmapOf}
+use Rattle.pgs_run_length.specs.RunLength.{Code, run, lineEnd, codesOf, pixelsOf}
+use Rattle.pgs_bitmap_check.specs.Bitmap.{counted, stopped, atEnd, readFrom, readingOf, bitmapOf}
 
 -- what an accepted verdict tells
 never : {A : Type 0} {k : ℕ} → refused k ≡ accepted → A

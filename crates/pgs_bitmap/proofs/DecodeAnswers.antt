@@ -11,10 +11,12 @@ use lib.Seq.{length-take-le, take-all}
 use borrow.Author.Tests.{le-leb, lt-leb}
 use Rattle.pgs_base.specs.Outcome.{Verdict, accepted, refused, andThen, unless, laid}
 use Rattle.pgs_base.specs.declared.refusal.Refusal.the-variants.{BufferTooSmall}
-use Rattle.pgs_bitmap.specs.Bitmap.{readingOf, bitmapOf}
-use Rattle.pgs_bitmap.specs.Decoding.{outcome, decodeVerdict, paddedTo, Decoding}
-use Rattle.pgs_bitmap.specs.declared.bitmap.Decoded.{Decoded}
-use Rattle.pgs_bitmap.specs.declared.bitmap.Decoded.the-variants.{Accepted, Refused}
+use Rattle.pgs_bitmap_check.specs.Bitmap.{readingOf, bitmapOf}
+use Rattle.pgs_bitmap_check.specs.Outcomes.{outcome}
+use Rattle.pgs_bitmap.specs.Decoding.{decodeVerdict, Decoding}
+use Rattle.pgs_bitmap_store.specs.Padding.{paddedTo}
+use Rattle.pgs_bitmap_check.specs.declared.bitmap.Decoded.{Decoded}
+use Rattle.pgs_bitmap_check.specs.declared.bitmap.Decoded.the-variants.{Accepted, Refused}
 use Rattle.pgs_bitmap.proofs.BitmapArea.{bitmap-area}
 
 -- a product of two sizes fits

@@ -1,5 +1,1 @@
-pub mod RunLength
-pub mod Bitmap
 pub mod Decoding
-pub mod NextCode
-pub mod Progress

@@ -1,3 +1,2 @@
 // Object bitmaps: the run-length code of 01, 'Run-length code'.
 pub mod bitmap;
-pub mod code;

@@ -5,9 +5,9 @@ use mathlib.Core.List.{List, []}
 use Prim.Native.Nat.{ℕ, _+_, _-_, _<_}
 use native.Mathlib.Omega.{arith}
 use lib.ListN.{length, drop}
-use Rattle.pgs_bitmap.specs.RunLength.{run, lineEnd, found, codeOf}
-use Rattle.pgs_bitmap.specs.Bitmap.{bitmapOf}
-use Rattle.pgs_bitmap.proofs.BitmapSteps.{taken-at, pixels-run, pixels-line, pixels-end}
+use Rattle.pgs_run_length.specs.RunLength.{run, lineEnd, found, codeOf}
+use Rattle.pgs_bitmap_check.specs.Bitmap.{bitmapOf}
+use Rattle.pgs_bitmap_check.proofs.BitmapSteps.{taken-at, pixels-run, pixels-line, pixels-end}
 use Rattle.pgs_bitmap_within.specs.Storing.{Ahead}
 
 module _ (l : List ℕ) (from : ℕ) (here : from < length l) where

@@ -7,7 +7,7 @@ use Prim.Native.Nat.{ℕ, _+_, _-_}
 use lib.Dec.{leb}
 use lib.ListN.{length}
 use borrow.Author.Tests.{leb-true}
-use Rattle.pgs_bitmap.specs.Bitmap.{bitmapOf}
+use Rattle.pgs_bitmap_check.specs.Bitmap.{bitmapOf}
 use Rattle.pgs_bitmap_within.specs.Within.{partAt, putAt, roomFor, shownFrom, storedWithin}
 use Rattle.pgs_bitmap_within.specs.Storing.{Room}
 

@@ -7,9 +7,9 @@ use native.Mathlib.Omega.{arith}
 use lib.ListN.{length, take, drop, replicate, length-append, length-drop, length-replicate, take-append-drop}
 use lib.Seq.{length-take-le, take-take, take-append-le, take-append-add, take-all, take-at, drop-at, drop-drop}
 use Rattle.pgs_base.proofs.Lists.{drop-take}
-use Rattle.pgs_bitmap.specs.Bitmap.{bitmapOf}
-use Rattle.pgs_bitmap.proofs.BitmapSteps.{pixels-end}
-use Rattle.pgs_bitmap.proofs.BitmapStores.{run-with-room}
+use Rattle.pgs_bitmap_check.specs.Bitmap.{bitmapOf}
+use Rattle.pgs_bitmap_check.proofs.BitmapSteps.{pixels-end}
+use Rattle.pgs_bitmap_store.proofs.BitmapStores.{run-with-room}
 use Rattle.pgs_bitmap_within.specs.Within.{partAt, putAt, shownFrom}
 use Rattle.pgs_bitmap_within.specs.Storing.{Ahead, Room}
 use Rattle.pgs_bitmap_within.specs.declared.within.RunAhead.{RunAhead}

@@ -3,7 +3,7 @@ use mathlib.Core.Path.{_≡_}
 use mathlib.Core.List.{List, _++_}
 use Prim.Native.Nat.{ℕ, _+_, _≤_, _<_}
 use lib.ListN.{length, drop, replicate}
-use Rattle.pgs_bitmap.specs.Bitmap.{bitmapOf}
+use Rattle.pgs_bitmap_check.specs.Bitmap.{bitmapOf}
 use Rattle.pgs_bitmap_within.specs.declared.within.RunAhead.{RunAhead}
 
 -- the pixels from a place on are these, then those of the data that these leave

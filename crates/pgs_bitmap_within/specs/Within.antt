@@ -6,7 +6,7 @@ use Prim.Native.Nat.{ℕ, _+_, _-_}
 use lib.Dec.{leb}
 use lib.ListN.{length, take, drop}
 use Rattle.pgs_base.specs.Outcome.{pick}
-use Rattle.pgs_bitmap.specs.Bitmap.{bitmapOf}
+use Rattle.pgs_bitmap_check.specs.Bitmap.{bitmapOf}
 
 -- so many bytes from a place on
 abbrev pub partAt : List ℕ → (place len : ℕ) → List ℕ

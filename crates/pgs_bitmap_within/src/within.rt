@@ -1,12 +1,12 @@
 // Storing the pixels of a bitmap further on in the memory that its data stands in. The data is lent for one code at a time, so that the memory
 // can be stored to in between.
-use pgs_bitmap::code::CodeAt;
-use pgs_bitmap::code::NextCode;
-use pgs_bitmap::code::next_code;
+use pgs_run_length::code::CodeAt;
+use pgs_run_length::code::NextCode;
+use pgs_run_length::code::next_code;
 ghost use mathlib.Core.Path.{_≡_};
 ghost use Prim.Native.Nat.{_≤_, _<_};
 ghost use lib.ListN.{length, replicate};
-ghost use Rattle.pgs_bitmap.specs.Bitmap.{bitmapOf};
+ghost use Rattle.pgs_bitmap_check.specs.Bitmap.{bitmapOf};
 ghost use Rattle.pgs_bitmap_within.specs.Within.{partAt, putAt, roomFor, shownFrom, storedWithin};
 ghost use Rattle.pgs_bitmap_within.specs.Storing.{Ahead, Room};
 

@@ -4,7 +4,7 @@ use mathlib.Core.Path.{_≡_}
 use mathlib.Core.List.{List}
 use lib.ListN.{length}
 use Rattle.pgs_base.specs.Outcome.{unless, pick, laid}
-use Rattle.pgs_bitmap.specs.Bitmap.{bitmapOf}
+use Rattle.pgs_bitmap_check.specs.Bitmap.{bitmapOf}
 use Rattle.pgs_bitmap.specs.Decoding.{decodeVerdict}
 use Rattle.pgs_calls.specs.Calls.{codeOf}
 use Rattle.pgs_palette.specs.Table.{holds}

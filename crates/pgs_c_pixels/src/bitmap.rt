@@ -1,6 +1,6 @@
 // Bitmaps: the run-length code of objects.
-use pgs_bitmap::bitmap::Decoded;
 use pgs_bitmap::bitmap::decode_rle;
+use pgs_bitmap_check::bitmap::Decoded;
 ghost use Rattle.pgs_c_pixels.specs.Pixels.{BitmapCall};
 
 // The palette indices of an object's data, width times height of them.

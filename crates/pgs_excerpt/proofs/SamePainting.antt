@@ -6,7 +6,7 @@ use Prim.Native.Nat.{ℕ, _+_, _*_}
 use lib.Dec.{eqb}
 use lib.ListN.{length, getD}
 use Rattle.pgs_base.specs.Outcome.{Verdict, Outcome, andThen, needing, isAccepted, laid, outcomeOf, pick}
-use Rattle.pgs_bitmap.specs.Bitmap.{readingOf, bitmapOf}
+use Rattle.pgs_bitmap_check.specs.Bitmap.{readingOf, bitmapOf}
 use Rattle.pgs_palette.specs.Palette.{Conversion}
 use Rattle.pgs_plane.specs.Placing.{imageOf}
 use Rattle.pgs_object.specs.Objects.{Fragment, Chain, objectId, widthOf, heightOf, objectsOf, objectsVerdict}

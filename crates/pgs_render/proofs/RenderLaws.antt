@@ -12,7 +12,7 @@ use lib.Seq.{take-at, drop-at, drop-drop}
 use Rattle.pgs_base.specs.Bytes.{Bytes}
 use Rattle.pgs_base.specs.Outcome.{Verdict, accepted, refused, Outcome, outcomeOf, andThen, unless, needing, laid, pick}
 use Rattle.pgs_base.proofs.Outcomes.{first-accepts, second-holds}
-use Rattle.pgs_bitmap.specs.Bitmap.{readingOf, bitmapOf}
+use Rattle.pgs_bitmap_check.specs.Bitmap.{readingOf, bitmapOf}
 use Rattle.pgs_bitmap.proofs.BitmapArea.{bitmap-area}
 use Rattle.pgs_color.specs.Bytes.{rgbOf}
 use Rattle.pgs_palette.specs.Table as table

@@ -9,7 +9,7 @@ use lib.Dec.{leb, eqb}
 use lib.ListN.{length, drop, getD, length-append, drop-of-length-le}
 use Rattle.pgs_base.specs.Outcome.{Verdict, accepted, refused, andThen, unless, pick}
 use Rattle.pgs_base.proofs.Decisions.{leb-same}
-use Rattle.pgs_bitmap.specs.Bitmap.{readingOf}
+use Rattle.pgs_bitmap_check.specs.Bitmap.{readingOf}
 use Rattle.pgs_pcs.specs.PcsBody.{placementRow}
 use Rattle.pgs_pcs.specs.declared.pcs.CompositionObject.{CompositionObject}
 use Rattle.pgs_object.specs.Objects.{Chain, objectId, widthOf, heightOf, dataOf}

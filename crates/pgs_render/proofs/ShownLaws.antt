@@ -8,7 +8,7 @@ use lib.ListN.{length, take, drop}
 use lib.Seq.{take-at, drop-at, drop-drop}
 use Rattle.pgs_base.specs.Outcome.{accepted, pick}
 use Rattle.pgs_base.proofs.Outcomes.{first-accepts, second-holds}
-use Rattle.pgs_bitmap.specs.Bitmap.{readingOf, bitmapOf}
+use Rattle.pgs_bitmap_check.specs.Bitmap.{readingOf, bitmapOf}
 use Rattle.pgs_bitmap.proofs.BitmapArea.{bitmap-area}
 use Rattle.pgs_plane.specs.Pictures.{Layer, painted, paintedAll}
 use Rattle.pgs_plane.specs.Placing.{Image, imageOf, partOf, partShown, indexShown}

@@ -9,8 +9,8 @@ use lib.Dec.{eqb}
 use lib.ListN.{length, take, drop, getD, length-append, length-drop, drop-of-length-le, take-append-drop}
 use lib.Seq.{drop-drop, drop-at, take-at, take-all, take-take, take-append-le, length-take-le}
 use Rattle.pgs_base.specs.Outcome.{accepted, andThen, pick}
-use Rattle.pgs_bitmap.specs.Bitmap.{readingOf, bitmapOf}
-use Rattle.pgs_bitmap.specs.Decoding.{paddedTo}
+use Rattle.pgs_bitmap_check.specs.Bitmap.{readingOf, bitmapOf}
+use Rattle.pgs_bitmap_store.specs.Padding.{paddedTo}
 use Rattle.pgs_bitmap.proofs.BitmapArea.{bitmap-area}
 use Rattle.pgs_bitmap.proofs.DecodeAnswers.{padded-whole}
 use Rattle.pgs_bitmap_within.specs.Within.{partAt, putAt, roomFor, shownFrom, storedWithin}

@@ -4,7 +4,7 @@ use mathlib.Core.List.{List, [], _∷_, _++_}
 use Prim.Native.Nat.{ℕ, _+_, _*_}
 use lib.Dec.{eqb}
 use Rattle.pgs_base.specs.Outcome.{Verdict, accepted, andThen, unless, pick}
-use Rattle.pgs_bitmap.specs.Bitmap.{readingOf, bitmapOf}
+use Rattle.pgs_bitmap_check.specs.Bitmap.{readingOf, bitmapOf}
 use Rattle.pgs_plane.specs.Placing.{Image, imageOf}
 use Rattle.pgs_pcs.specs.declared.pcs.CompositionObject.{CompositionObject}
 use Rattle.pgs_object.specs.Objects.{Chain, objectId, widthOf, heightOf, dataOf}

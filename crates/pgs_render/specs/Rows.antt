@@ -6,7 +6,7 @@ use Prim.Native.Nat.{ℕ, _+_, _*_, _≤_, _<_}
 use lib.Dec.{eqb}
 use lib.ListN.{length, getD, take, drop}
 use Rattle.pgs_base.specs.Outcome.{Verdict, accepted, andThen, pick}
-use Rattle.pgs_bitmap.specs.Bitmap.{readingOf, bitmapOf}
+use Rattle.pgs_bitmap_check.specs.Bitmap.{readingOf, bitmapOf}
 use Rattle.pgs_plane.specs.Placing.{Image, imageOf}
 use Rattle.pgs_pcs.specs.declared.pcs.Cropping.{Cropping}
 use Rattle.pgs_pcs.specs.declared.pcs.Cropping.the-variants.{Uncropped, Cropped}

@@ -1,13 +1,13 @@
 // The tests of a display set's objects and placements, before their bitmaps are stored: 01, 'Why a call is turned down'.
 use pgs_base::refusal::Refusal;
-use pgs_bitmap::bitmap::Decoded;
-use pgs_bitmap::bitmap::check_rle;
+use pgs_bitmap_check::bitmap::Decoded;
+use pgs_bitmap_check::bitmap::check_rle;
 use pgs_object_view::view::object_data;
 ghost use mathlib.Core.Path.{_≡_};
 ghost use Prim.Native.Nat.{_<_, _^_};
 ghost use lib.Dec.{leb};
 ghost use Rattle.pgs_base.specs.Outcome.{andThen, unless};
-ghost use Rattle.pgs_bitmap.specs.Decoding.{outcome};
+ghost use Rattle.pgs_bitmap_check.specs.Outcomes.{outcome};
 ghost use Rattle.pgs_render.specs.Rows.{
   Narrow,
   rowJoined,

@@ -1,12 +1,12 @@
 // Storing the bitmaps of a display set's objects in the scratch, after the joined data.
-use pgs_bitmap::bitmap::store_rle;
+use pgs_bitmap_store::bitmap::store_rle;
 use pgs_bitmap_within::within::store_within;
 use pgs_object_view::view::object_data;
 ghost use mathlib.Core.Path.{_≡_};
 ghost use mathlib.Core.List.{_++_};
 ghost use Prim.Native.Nat.{_+_};
 ghost use lib.ListN.{take, drop};
-ghost use Rattle.pgs_bitmap.specs.Bitmap.{bitmapOf};
+ghost use Rattle.pgs_bitmap_check.specs.Bitmap.{bitmapOf};
 ghost use Rattle.pgs_object.specs.Reassembly.{shownBy};
 ghost use Rattle.pgs_render.specs.Rows.{Storable, AllStorable, rowArea, rowsArea, rowsBitmaps};
 

@@ -1,7 +1,7 @@
 // The calls that read. Lists and buffers are full of 9s before.
 use crate::print;
-use pgs_bitmap::bitmap::Decoded;
 use pgs_bitmap::bitmap::decode_rle;
+use pgs_bitmap_check::bitmap::Decoded;
 use pgs_cards::cards::CardsAnswer;
 use pgs_cards::cards::write_cards;
 use pgs_cells::pcs::pcs_cells;

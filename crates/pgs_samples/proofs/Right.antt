@@ -3,7 +3,7 @@ use mathlib.Core.Path.{_≡_, refl}
 use mathlib.Core.List.{map}
 use lib.Ieee.{le, add, sub, mul, ofInt, div, toUnsigned}
 use Rattle.pgs_base.specs.Bytes.{num}
-use Rattle.pgs_bitmap.specs.RunLength.{codesOf}
+use Rattle.pgs_run_length.specs.RunLength.{codesOf}
 use Rattle.pgs_stream.specs.Stream.{readOf}
 use Rattle.pgs_set.specs.Sets.{setsOf}
 use Rattle.pgs_object.specs.Objects.{objectsOf}

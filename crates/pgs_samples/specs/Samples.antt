@@ -4,7 +4,7 @@ use Prim.Native.Nat.{ℕ, _+_}
 use mathlib.Core.List.{List, [], _∷_, _++_}
 use lib.ListN.{length}
 use Rattle.pgs_base.specs.Outcome.{Outcome, gives, refuses, outcomeOf}
-use Rattle.pgs_bitmap.specs.Bitmap.{readingOf, bitmapOf}
+use Rattle.pgs_bitmap_check.specs.Bitmap.{readingOf, bitmapOf}
 use Rattle.pgs_color.specs.Bytes.{rgbOf}
 use Rattle.pgs_color.specs.declared.ycbcr.Rgb8.{Rgb8}
 use Rattle.pgs_object.specs.Objects.{Chain, dataOf, objectsOf, objectsVerdict}

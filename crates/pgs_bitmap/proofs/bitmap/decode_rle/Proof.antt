@@ -4,8 +4,8 @@ use lib.Seq.{length-take-le}
 use denote.Ref.{now}
 use borrow.Author.Needs.{needs}
 use Rattle.pgs_base.specs.Outcome.{accepted}
-use Rattle.pgs_bitmap.specs.Bitmap.{readingOf}
-use Rattle.pgs_bitmap.specs.Decoding.{outcome}
+use Rattle.pgs_bitmap_check.specs.Bitmap.{readingOf}
+use Rattle.pgs_bitmap_check.specs.Outcomes.{outcome}
 use Rattle.pgs_bitmap.proofs.DecodeAnswers.{area-fits, refused-bitmap, too-small, stored-bitmap}
 use Rattle.pgs_bitmap.proofs.bitmap.decode_rle.Statement.{statement}
 use Rattle.pgs_bitmap.proofs.bitmap.decode_rle.Tie as tie

@@ -8,7 +8,7 @@ use native.Mathlib.Omega.{arith}
 use lib.ListN.{length}
 use lib.Seq.{drop-length}
 use denote.Ref.{now}
-use Rattle.pgs_bitmap.proofs.RunFill.{Filling, filling-begins, filling-stores, filling-ends}
+use Rattle.pgs_bitmap_store.proofs.RunFill.{Filling, filling-begins, filling-stores, filling-ends}
 use Rattle.pgs_bitmap_within.proofs.within.fill.Statement.{statement}
 use Rattle.pgs_bitmap_within.proofs.within.fill.Tie as tie
 

@@ -3,9 +3,9 @@ use mathlib.Core.Path.{_≡_, sym, ap, _∙_}
 use denote.Ref.{now}
 use borrow.Author.Needs.{needs}
 use lib.ListN.{drop}
-use Rattle.pgs_bitmap.specs.RunLength.{codeOf}
-use Rattle.pgs_bitmap.specs.NextCode.{firstCode, codeAt}
-use Rattle.pgs_bitmap.proofs.BitmapSteps.{pixels-none, pixels-truncated}
+use Rattle.pgs_run_length.specs.RunLength.{codeOf}
+use Rattle.pgs_run_length.specs.NextCode.{firstCode, codeAt}
+use Rattle.pgs_bitmap_check.proofs.BitmapSteps.{pixels-none, pixels-truncated}
 use Rattle.pgs_bitmap_within.proofs.AheadLaws.{ahead-run, ahead-line, ahead-none}
 use Rattle.pgs_bitmap_within.proofs.within.next_run.Statement.{statement}
 use Rattle.pgs_bitmap_within.proofs.within.next_run.Tie as tie

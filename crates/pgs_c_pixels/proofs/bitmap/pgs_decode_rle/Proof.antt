@@ -1,6 +1,6 @@
 -- `pgs_decode_rle` passes the layer's answer on.
 -- Assumes nothing.
-use Rattle.pgs_bitmap.specs.Decoding.{outcome}
+use Rattle.pgs_bitmap_check.specs.Outcomes.{outcome}
 use Rattle.pgs_calls.proofs.CallLaws.{code-refused, code-accepted}
 use Rattle.pgs_c_pixels.proofs.bitmap.pgs_decode_rle.Statement.{statement}
 use borrow.Author.Needs.{needs}

@@ -4,8 +4,8 @@ use borrow.Author.Needs.{needs}
 use mathlib.Core.Path.{sym, ap}
 use Prim.Native.Nat.{ℕ}
 use Rattle.pgs_base.specs.Outcome.{outcomeOf}
-use Rattle.pgs_bitmap.specs.Decoding.{outcome}
-use Rattle.pgs_bitmap.specs.declared.bitmap.Decoded.{Decoded}
+use Rattle.pgs_bitmap_check.specs.Outcomes.{outcome}
+use Rattle.pgs_bitmap_check.specs.declared.bitmap.Decoded.{Decoded}
 use Rattle.pgs_render.proofs.render.answer_of.Statement.{statement}
 use Rattle.pgs_render.proofs.render.answer_of.Tie as tie
 

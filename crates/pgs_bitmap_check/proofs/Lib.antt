@@ -1,0 +1,3 @@
+pub mod BitmapSteps
+pub mod UntestedWidth
+pub mod LiteralStretch

@@ -1,0 +1,2 @@
+// The check of object bitmaps: 01, 'Run-length code'.
+pub mod bitmap;

@@ -1,0 +1,2 @@
+pub mod RunFill
+pub mod BitmapStores

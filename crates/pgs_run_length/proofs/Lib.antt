@@ -1,0 +1,4 @@
+pub mod Places
+pub mod OneCode
+pub mod AllCodes
+pub mod LiteralBytes

@@ -1,0 +1,3 @@
+pub mod RunLength
+pub mod NextCode
+pub mod Literals
