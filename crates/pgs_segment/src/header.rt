@@ -1,4 +1,4 @@
-// The 13-byte head of a segment, and the kinds of segments (01, module 2).
+// The 13-byte head of a segment (01, module 2).
 use pgs_base::refusal::Refusal;
 use pgs_fields::u8_at;
 use pgs_fields::u16_at;

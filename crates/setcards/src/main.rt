@@ -2,6 +2,7 @@
 use libc::STDIN_FILENO;
 use libc::STDOUT_FILENO;
 use pgs_cards::cards::CardsAnswer;
+use pgs_cards::report::INPUT_LIMIT;
 use pgs_cards::report::write_report;
 ghost use mathlib.Core.Path.{_≡_};
 ghost use lib.ListN.{length};
@@ -22,7 +23,7 @@ fn report(input: &[u8], out: &mut [u8]) -> usize
 
 fn main() {
     // one byte more than the longest input, so that a longer one is noticed
-    let mut input = [0u8; 65537];
+    let mut input = [0u8; INPUT_LIMIT + 1];
     let got = io::read_full(STDIN_FILENO, &mut input);
     let mut out = io::large_buffer();
     let count = report(&input[..got], &mut out);
