@@ -4,7 +4,7 @@ use mathlib.Core.List.{List}
 use Prim.Native.Nat.{ℕ, _*_}
 use lib.Dec.{leb}
 use lib.ListN.{length}
-use Rattle.pgs_base.specs.Outcome.{Verdict, accepted, andThen, unless, laid}
+use Rattle.pgs_base.specs.Outcome.{Verdict, andThen, unless, laid}
 use Rattle.pgs_bitmap_check.specs.Bitmap.{readingOf, bitmapOf}
 use Rattle.pgs_bitmap_check.specs.Outcomes.{outcome}
 use Rattle.pgs_bitmap_check.specs.declared.bitmap.Decoded.{Decoded}

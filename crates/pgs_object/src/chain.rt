@@ -1,10 +1,10 @@
 // The fragments of a display set, and the chains that they make up (01, module 7).
-use crate::walk::header_at;
 use pgs_base::refusal::Refusal;
 use pgs_ods::ods::Dimensions;
 use pgs_ods::ods::Ods;
 use pgs_ods::ods::OdsAnswer;
 use pgs_records::BodyList;
+use pgs_segment::header::header_at;
 use pgs_set::set::is_end;
 use pgs_views::fragment_flag::FragmentFlag;
 use pgs_views::segment_type::SegmentType;

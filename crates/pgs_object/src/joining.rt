@@ -1,7 +1,7 @@
 // Joining the data of chains in the scratch (01, module 7).
 use crate::chain::is_ods;
 use crate::chain::read_fragment;
-use crate::walk::header_at;
+use pgs_segment::header::header_at;
 use pgs_views::segment_type::SegmentType;
 ghost use mathlib.Core.Path.{_≡_};
 ghost use Prim.Native.Nat.{_≤_};

@@ -2,7 +2,7 @@
 use pgs_base::refusal::Refusal;
 ghost use mathlib.Core.Path.{_≡_};
 ghost use Prim.Native.Nat.{_+_, _≤_, _<_, _^_};
-ghost use lib.ListN.{length, getD};
+ghost use lib.ListN.{length};
 ghost use Rattle.pgs_base.specs.Outcome.{accepted, outcomeOf, laid};
 ghost use Rattle.pgs_object.specs.Tables.{
   total,

@@ -4,7 +4,8 @@ use pgs_fields::u8_at;
 use pgs_fields::u16_at;
 use pgs_fields::u32_at;
 ghost use mathlib.Core.Path.{_≡_};
-ghost use Rattle.pgs_segment.specs.Header.{headerOutcome, headerOf};
+ghost use lib.ListN.{drop};
+ghost use Rattle.pgs_segment.specs.Header.{headerFields, headerOutcome, headerOf};
 
 pub struct SegmentHeader {
     pub pts: u32,
@@ -40,5 +41,26 @@ impl SegmentHeader {
             segment_type: u8_at(buf, 10),
             segment_size: u16_at(buf, 11),
         })
+    }
+}
+
+// The fields of a head at a place, whatever stands there: for a walk over a stream that was read before.
+pub fn header_at(s: &[u8], at: usize) -> SegmentHeader
+    ensures { λ r. ⌜ r ≡ headerFields (drop at (now (s .entry))) ⌝ }
+{
+    if s.len() < at {
+        return SegmentHeader {
+            pts: 0,
+            dts: 0,
+            segment_type: 0,
+            segment_size: 0,
+        };
+    }
+    let l = &s[at..];
+    SegmentHeader {
+        pts: u32_at(l, 2),
+        dts: u32_at(l, 6),
+        segment_type: u8_at(l, 10),
+        segment_size: u16_at(l, 11),
     }
 }

@@ -15,7 +15,7 @@ use Rattle.pgs_base.proofs.Outcomes.{gave, gave-value, turned-down, first-accep
 use Rattle.pgs_segment.specs.Header.{ptsOf, headerFields}
 use Rattle.pgs_views.specs.Kinds.{typeOf}
 use Rattle.pgs_segment.specs.OneSegment.{segmentType, usedBy}
-use Rattle.pgs_stream.specs.Stream.{readOf, stepVerdict, streamVerdict}
+use Rattle.pgs_stream.specs.Stream.{stepVerdict, streamVerdict}
 use Rattle.pgs_segment.specs.declared.header.SegmentHeader.{SegmentHeader}
 use Rattle.pgs_views.specs.declared.«segment_type».SegmentType.{SegmentType}
 use Rattle.pgs_views.specs.declared.«segment_type».SegmentType.the-variants.{Pds, Ods, Pcs, Wds, End, Other}

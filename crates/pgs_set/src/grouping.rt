@@ -3,7 +3,7 @@ use pgs_base::refusal::Refusal;
 use pgs_views::segment_type::SegmentType;
 ghost use mathlib.Core.Path.{_≡_};
 ghost use Rattle.pgs_base.specs.Outcome.{outcomeOf};
-ghost use Rattle.pgs_set.specs.Sets.{kindVerdict, stateAfter, stepOutcome, isPcs};
+ghost use Rattle.pgs_set.specs.Sets.{kindVerdict, stateAfter, stepOutcome};
 
 // Whether a set is open, and whether it has a WDS.
 pub enum Grouping {

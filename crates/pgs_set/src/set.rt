@@ -3,8 +3,7 @@ use crate::grouping::GroupStep;
 use crate::grouping::Grouping;
 use crate::grouping::group_segment;
 use pgs_base::refusal::Refusal;
-use pgs_segment::header::HeaderAnswer;
-use pgs_segment::header::SegmentHeader;
+use pgs_segment::header::header_at;
 use pgs_segment::segment::FrameAnswer;
 use pgs_segment::segment::check_segment;
 use pgs_stream::stream::StreamAnswer;
@@ -13,11 +12,10 @@ use pgs_views::segment_type::SegmentType;
 ghost use mathlib.Core.Path.{_≡_};
 ghost use Prim.Native.Nat.{_≤_, _<_};
 ghost use mathlib.Core.List.{[]};
-ghost use lib.ListN.{length, drop};
+ghost use lib.ListN.{length};
 ghost use Rattle.pgs_base.specs.Outcome.{accepted, refused, andThen, outcomeOf, laid, Delivered};
 ghost use Rattle.pgs_base.specs.Refusals.{numberOf};
-ghost use Rattle.pgs_segment.specs.Header.{headerFields};
-ghost use Rattle.pgs_stream.specs.Stream.{stepVerdict, streamVerdict};
+ghost use Rattle.pgs_stream.specs.Stream.{streamVerdict};
 ghost use Rattle.pgs_set.specs.Sets.{
   groupVerdict,
   isEnd,
@@ -39,23 +37,6 @@ pub enum SetsAnswer {
 pub enum SetAnswer {
     Set(usize, usize, u32),
     Refused(Refusal),
-}
-
-// The head of the segment at a place where one is known to stand.
-fn header_at(s: &[u8], at: usize) -> SegmentHeader
-    requires { ⌜ stepVerdict (drop at (now s)) ≡ accepted ⌝ }
-    ensures { λ r. ⌜ r ≡ headerFields (drop at (now (s .entry))) ⌝ }
-{
-    match SegmentHeader::parse(&s[at..]) {
-        HeaderAnswer::Header(header) => header,
-        // cannot be: the segment was accepted
-        HeaderAnswer::Refused(_) => SegmentHeader {
-            pts: 0,
-            dts: 0,
-            segment_type: 0,
-            segment_size: 0,
-        },
-    }
 }
 
 // 1 where a segment of this kind opens a set, else 0.

@@ -18,7 +18,7 @@ use pgs_writer_lists::pds::encode_pds;
 use pgs_writer_lists::wds::encode_wds;
 use pgs_writer_pcs::pcs::encode_pcs;
 ghost use mathlib.Core.Path.{_≡_};
-ghost use Prim.Native.Nat.{_≤_, _<_};
+ghost use Prim.Native.Nat.{_≤_};
 ghost use lib.ListN.{length};
 ghost use Rattle.pgs_base.specs.Outcome.{accepted};
 ghost use Rattle.pgs_segment.specs.Fields.{bodyVerdict};

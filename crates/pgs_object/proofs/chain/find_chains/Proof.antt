@@ -22,7 +22,7 @@ loop-holds : tie.Need-loop-holds Inv-loop μ-loop
 loop-holds c = finding (now (c .before .args .s)) (c .before .args .from) (now (c .before .args .table)) (c .before .pre)
 
 header-at-requires : tie.Need-header-at-requires Inv-loop μ-loop
-header-at-requires c κs = finds-here (now (c .before .before .args .s)) (c .before .before .args .from) (c .loop .inv)
+header-at-requires c κs = tt
 
 cast-used : tie.Need-cast-used Inv-loop μ-loop
 cast-used c = search needs

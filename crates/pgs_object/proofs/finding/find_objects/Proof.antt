@@ -4,7 +4,7 @@ use borrow.Author.Needs.{needs}
 use Rattle.pgs_base.proofs.Outcomes.{gave, turned-down}
 use Rattle.pgs_object.proofs.ObjectLaws.{set-objects, set-verdict, no-set}
 use Rattle.pgs_object.proofs.finding.find_objects.Statement.{statement}
-use Rattle.pgs_set.proofs.NumberLaws.{stands-here, stands-open}
+use Rattle.pgs_set.proofs.NumberLaws.{stands-open}
 use Rattle.pgs_set.specs.Sets.{setNumber, setVerdict, setRow}
 use Rattle.pgs_set.specs.Walks.{setOutcome}
 use lib.ListN.{length}
@@ -23,7 +23,7 @@ enum-known-place : tie.Need-enum-known-place
 enum-known-place c = search needs
 
 header-at-requires : tie.Need-header-at-requires
-header-at-requires c κs = stands-here (now (c .before .before .before .before .before .args .s)) (c .before .before .before .before .before .args .set) (c .before .before .before .find-set .ensures .stands _ _ _ (ap setOutcome (c .before .place .given .1)))
+header-at-requires c κs = tt
 
 cast-find-in-set : tie.Need-cast-find-in-set
 cast-find-in-set c = search needs

@@ -20,7 +20,7 @@ loop-holds : tie.Need-loop-holds Inv-loop μ-loop
 loop-holds c = joining (now (c .before .before .args .s)) (c .before .before .args .from) (c .before .before .args .id) (now (c .before .before .args .out)) (c .before .before .pre)
 
 header-at-requires : tie.Need-header-at-requires Inv-loop μ-loop
-header-at-requires c κs = joins-here (now (c .before .before .before .before .args .s)) (c .before .before .before .before .args .from) (c .before .before .before .before .args .id) (c .before .loop .inv) (c .loop-test .taken)
+header-at-requires c κs = tt
 
 cast-used : tie.Need-cast-used Inv-loop μ-loop
 cast-used c = search needs

@@ -2,7 +2,7 @@
 -- Assumes nothing.
 use borrow.Author.Needs.{needs}
 use Rattle.pgs_base.proofs.Outcomes.{gave, gave-value, turned-down}
-use Rattle.pgs_set.proofs.NumberLaws.{stands-here, stands-open, finds-set, finds-no-sets, finds-past}
+use Rattle.pgs_set.proofs.NumberLaws.{stands-open, finds-set, finds-no-sets, finds-past}
 use Rattle.pgs_set.specs.Sets.{setsVerdict, setCount, setsOutcome}
 use denote.Ref.{now}
 use mathlib.Core.Path.{sym, ap, _∙_}
@@ -26,7 +26,7 @@ set-place-requires : tie.Need-set-place-requires
 set-place-requires c κs = let s = now (c .before .before .before .before .before .before .args .s) in let e = sym (ap setsOutcome (c .before .before .n .given .1)) ∙ c .before .before .before .before .group-display-sets .ensures in let all = gave-value (setsVerdict s) (setCount s) e in ((gave (setsVerdict s) (setCount s) e), omega (arith, all, c .if1 .left))
 
 header-at-requires : tie.Need-header-at-requires
-header-at-requires c κs = stands-here (now (c .before .before .before .before .before .before .before .args .s)) (c .before .before .before .before .before .before .before .args .k) (c .set-place .ensures)
+header-at-requires c κs = tt
 
 cast-set-end : tie.Need-cast-set-end
 cast-set-end c = search needs

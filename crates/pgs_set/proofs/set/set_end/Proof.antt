@@ -19,7 +19,7 @@ loop-holds : tie.Need-loop-holds Inv-loop μ-loop
 loop-holds c = passing (now (c .before .args .s)) (c .before .pre)
 
 header-at-requires : tie.Need-header-at-requires Inv-loop μ-loop
-header-at-requires c κs = inside-here (now (c .before .before .args .s)) (c .loop .inv .inSet)
+header-at-requires c κs = tt
 
 cast-at : tie.Need-cast-at Inv-loop μ-loop
 cast-at c = search needs
