@@ -8,7 +8,7 @@ use pgs_run_length::code::next_code;
 use pgs_run_length::code::short_count;
 ghost use mathlib.Core.Path.{_≡_};
 ghost use mathlib.Core.Bool.{true};
-ghost use Prim.Native.Nat.{_+_, _^_, _≤_, _<_};
+ghost use Prim.Native.Nat.{_+_, _-_, _^_, _≤_, _<_};
 ghost use lib.ListN.{length, getD, drop};
 ghost use lib.Dec.{eqb};
 ghost use Rattle.pgs_base.specs.Outcome.{unless};
@@ -197,10 +197,10 @@ struct Mark {
     at: usize,
 }
 
-// Goes on after the bytes that are one pixel each, if there is one at the place.
+// Goes on after up to two bytes that are one pixel each.
 fn pixels_at(data: &[u8], column: usize, at: usize) -> Mark
-    requires { ⌜ (at + 4 ≤ length (now «data»)) × (column < 2 ^ 32) ⌝ }
-    ensures { λ r. ⌜ Onward (now («data» .entry)) column at (r .column) (r .at) ⌝ }
+    requires { ⌜ (at + 2 ≤ length (now «data»)) × (column < 2 ^ 50) ⌝ }
+    ensures { λ r. ⌜ (r .column ≤ column + 2) × Onward (now («data» .entry)) column at (r .column) (r .at) ⌝ }
 {
     if data[at] == 0 {
         return Mark {
@@ -208,17 +208,22 @@ fn pixels_at(data: &[u8], column: usize, at: usize) -> Mark
             at: at,
         };
     }
-    let n = literals_from(data, at);
+    if data[at + 1] == 0 {
+        return Mark {
+            column: column + 1,
+            at: at + 1,
+        };
+    }
     Mark {
-        column: column + n,
-        at: at + n,
+        column: column + 2,
+        at: at + 2,
     }
 }
 
 // Goes on after a byte that is one pixel, and after a short run of a color and pixels behind it, which mostly follow.
 fn stroke_at(data: &[u8], column: usize, at: usize) -> Mark
-    requires { ⌜ (at + 8 ≤ length (now «data»)) × (column < 2 ^ 24) ⌝ }
-    ensures { λ r. ⌜ Onward (now («data» .entry)) column at (r .column) (r .at) ⌝ }
+    requires { ⌜ (at + 6 ≤ length (now «data»)) × (column < 2 ^ 49) ⌝ }
+    ensures { λ r. ⌜ (r .column ≤ column + 128) × Onward (now («data» .entry)) column at (r .column) (r .at) ⌝ }
 {
     if data[at] == 0 {
         return Mark {
@@ -238,8 +243,8 @@ fn stroke_at(data: &[u8], column: usize, at: usize) -> Mark
 
 // Goes on after a run that begins with the byte 00 at a place, and what mostly follows it, where no code has bytes missing.
 fn run_at(data: &[u8], column: usize, at: usize) -> Mark
-    requires { ⌜ (at + 12 ≤ length (now «data»)) × (getD (now «data») at 0 ≡ 0) × (getD (now «data») (at + 1) 0 ≡ 0 → ⊥) × (column < 65536) ⌝ }
-    ensures { λ r. ⌜ (at < r .at) × Onward (now («data» .entry)) column at (r .column) (r .at) ⌝ }
+    requires { ⌜ (at + 9 ≤ length (now «data»)) × (getD (now «data») at 0 ≡ 0) × (getD (now «data») (at + 1) 0 ≡ 0 → ⊥) × (column < 2 ^ 48) ⌝ }
+    ensures { λ r. ⌜ (at < r .at) × (r .column ≤ column + 65536) × Onward (now («data» .entry)) column at (r .column) (r .at) ⌝ }
 {
     let second = data[at + 1];
     if second < 0x40 {
@@ -295,8 +300,23 @@ fn check_rest(
     }
 }
 
-// Reads the codes through. The width is tested once for each turn and at the end of each line, not for each run. Where twelve bytes are
-// left, no code has bytes missing, which makes this loop fast.
+// At each place before this one nine bytes are left, so that no code read in one turn has bytes missing. It is at most 2^32, so that the
+// pixels of a line can be counted without a test of each sum.
+fn places(length: usize) -> usize
+    ensures { λ r. ⌜ (r ≤ length - 8) × (r ≤ 2 ^ 32) ⌝ }
+{
+    if length < 9 {
+        return 0;
+    }
+    let all = length - 8;
+    if all < 0x1_0000_0000 {
+        all
+    } else {
+        0x1_0000_0000
+    }
+}
+
+// Reads the codes through. The width is tested at the end of each line and of the data, not for each run, which makes this loop fast.
 fn check_codes(data: &[u8], width: usize, height: usize) -> Decoded
     requires { ⌜ (width < 65536) × (height < 65536) ⌝ }
     ensures { λ r. ⌜ outcome r ≡ readingOf (now («data» .entry)) width height .verdict ⌝ }
@@ -304,15 +324,19 @@ fn check_codes(data: &[u8], width: usize, height: usize) -> Decoded
     let mut lines: usize = 0;
     let mut column: usize = 0;
     let mut at: usize = 0;
-    while 12 <= data.len() - at && column <= width {
+    let limit = places(data.len());
+    while at < limit {
+        let second = data[at + 1];
         if data[at] != 0 {
             let n = literals_from(data, at);
             column += n;
             at += n;
-        } else if data[at + 1] != 0 {
+        } else if second != 0 {
             let mark = run_at(data, column, at);
             column = mark.column;
             at = mark.at;
+        } else if width < column {
+            return Decoded::Refused(Refusal::RunPastWidth);
         } else {
             let step = end_line(data, width, height, lines, column, at);
             match step {

@@ -28,6 +28,12 @@ fits-exactly before after from count color room is =
       front = is ∙ ap (λ (n : ℕ). take from before ++ replicate n color) {x = count} {y = from + count - from} (omega arith);
     }
 
+-- and what filling a block is that the run is the front of
+pub block-fills : {before after : List ℕ} {from count color : ℕ} (n : ℕ) → count ≤ n → from + n ≤ length before
+    → after ≡ take from before ++ (replicate n color ++ drop n (drop from before)) → Filled before from count color (from + count) after
+block-fills {before} {after} {from} {count} {color} n few room filled =
+    fits-exactly before after from count color (omega arith) (run-in-front before after from count n color few (omega arith) filled)
+
 -- and where there is room for a part of it alone
 pub fits-partly : (before after : List ℕ) (from count color room : ℕ) → from + room ≡ length before → room ≤ count
     → take (from + room) after ≡ take from before ++ replicate room color → Filled before from count color (from + room) after
@@ -98,13 +104,6 @@ module _ {l now : List ℕ} {at out : ℕ} (s : Storing l now at out) where
     pub storing-escape : {to : ℕ} {after : List ℕ} → length after ≡ length now → Filled now out count color to after → Storing l after (at + n) to
     storing-escape same f =
         next count color n (omega (arith, run-taken (getD l (at + 1) 0) (getD l (at + 2) 0) (getD l (at + 3) 0) is .1)) (pixels-escape l at there escape is) same f
-
-    -- by a whole block
-    pub storing-block : {after : List ℕ} → count ≤ 64 → out + 64 ≤ length now → length after ≡ length now
-        → after ≡ take out now ++ (replicate 64 color ++ drop 64 (drop out now)) → Storing l after (at + n) (out + count)
-    storing-block {after} few room same filled =
-        storing-escape same
-        (fits-exactly now after out count color (omega arith) (run-in-front now after out count 64 color few (omega arith) filled))
 
   -- one pixel by itself
   pub storing-pixel : at < length l → (getD l at 0 ≡ 0 → ⊥) → out < length now → Storing l (set now out (getD l at 0)) (at + 1) (out + 1)

@@ -56,19 +56,6 @@ run-in-front start after from count n value h there is =
     ∙ take-append-add (take from start) (replicate n value ++ drop n (drop from start)) count
     ∙ ap (λ (m : List ℕ). take from start ++ m) (take-run count n value (drop n (drop from start)) h))
 
--- a run that another continues
-pub run-continued : (start between after : List ℕ) (from first count value : ℕ) → first ≤ count
-    → take (from + first) between ≡ take from start ++ replicate first value
-    → take (from + first + (count - first)) after ≡ take (from + first) between ++ replicate (count - first) value
-    → take (from + count) after ≡ take from start ++ replicate count value
-run-continued start between after from first count value h before more =
-    ap (λ (n : ℕ). take n after) {x = from + count} {y = from + first + (count - first)} (omega arith)
-    ∙ more
-    ∙ ap (λ (m : List ℕ). m ++ replicate (count - first) value) before
-    ∙ append-assoc (take from start) (replicate first value) (replicate (count - first) value)
-    ∙ ap (λ (m : List ℕ). take from start ++ m) (replicate-append-replicate first (count - first) value)
-    ∙ ap (λ (n : ℕ). take from start ++ replicate n value) {x = first + (count - first)} {y = count} (omega arith)
-
 -- a run of one
 pub one-in-front : (start : List ℕ) (from value : ℕ) → from < length start
     → take (from + 1) (set start from value) ≡ take from start ++ replicate 1 value

@@ -26,18 +26,6 @@ fn fill_exactly(pixels: &mut [u8], from: usize, count: usize, color: u8)
     }
 }
 
-// Fills 64 pixels, which takes the compiler four stores.
-fn fill_block(pixels: &mut [u8], from: usize, color: u8)
-    requires { ⌜ from + 64 ≤ length (now pixels) ⌝ }
-    ensures { λ _. ⌜ now (pixels .exit) ≡ take from (now (pixels .entry)) ++ (replicate 64 color ++ drop 64 (drop from (now (pixels .entry)))) ⌝ }
-{
-    let mut i: usize = 0;
-    while i < 64 {
-        pixels[from + i] = color;
-        i += 1;
-    }
-}
-
 // Fills as much of a run as there is room for, touches no other pixel, and answers the place after it.
 fn fill_run(pixels: &mut [u8], from: usize, count: usize, color: u8) -> usize
     requires { ⌜ from ≤ length (now pixels) ⌝ }
@@ -52,6 +40,18 @@ fn fill_run(pixels: &mut [u8], from: usize, count: usize, color: u8) -> usize
     from + count
 }
 
+// Fills a run of at most 64 pixels by a block of 16 or of 64, so that pixels after the run change too.
+fn fill_short(pixels: &mut [u8], from: usize, count: usize, color: u8)
+    requires { ⌜ (count ≤ 64) × (from + 64 ≤ length (now pixels)) ⌝ }
+    ensures { λ _. ⌜ Filled (now (pixels .entry)) from count color (from + count) (now (pixels .exit)) ⌝ }
+{
+    if count <= 16 {
+        fill_exactly(pixels, from, 16, color);
+    } else {
+        fill_exactly(pixels, from, 64, color);
+    }
+}
+
 // How far storing has come: the place of the next code, and that of its first pixel.
 struct Spot {
     at: usize,
@@ -61,7 +61,7 @@ struct Spot {
 // Stores the pixel of a byte that is one pixel, and no other.
 fn store_literal(data: &[u8], at: usize, pixels: &mut [u8], out: usize) -> Spot
     requires { ⌜ (at < length (now «data»)) × (out < length (now pixels)) × Storing (now «data») (now pixels) at out ⌝ }
-    ensures { λ r. ⌜ (at ≤ r .at) × Storing (now («data» .entry)) (now (pixels .exit)) (r .at) (r .out) ⌝ }
+    ensures { λ r. ⌜ (at ≤ r .at) × (r .at ≤ at + 1) × (r .out ≤ out + 1) × Storing (now («data» .entry)) (now (pixels .exit)) (r .at) (r .out) ⌝ }
 {
     let b = data[at];
     if b != 0 {
@@ -74,52 +74,104 @@ fn store_literal(data: &[u8], at: usize, pixels: &mut [u8], out: usize) -> Spot
     Spot { at: at, out: out }
 }
 
-// Stores the run of a code that begins with the byte 00. An end of line is stored as a run of no pixels. Runs of up to 63 pixels begin
-// with a whole block: the pixels after the run are stored later. After such a run it looks for a pixel by itself, since that is what
-// mostly follows.
-fn store_escape(data: &[u8], at: usize, pixels: &mut [u8], out: usize) -> Spot
-    requires { ⌜ (at + 8 ≤ length (now «data»)) × (getD (now «data») at 0 ≡ 0) × (out + 72 ≤ length (now pixels)) × Storing (now «data») (now pixels) at out ⌝ }
+// Stores a short run of a color, and the pixel by itself that mostly follows it.
+fn store_color(data: &[u8], at: usize, pixels: &mut [u8], out: usize) -> Spot
+    requires { ⌜ (at + 4 ≤ length (now «data»)) × (getD (now «data») at 0 ≡ 0) × (0x80 ≤ getD (now «data») (at + 1) 0) × (getD (now «data») (at + 1) 0 < 0xC0) × (out + 64 ≤ length (now pixels)) × Storing (now «data») (now pixels) at out ⌝ }
     ensures { λ r. ⌜ (at < r .at) × Storing (now («data» .entry)) (now (pixels .exit)) (r .at) (r .out) ⌝ }
 {
-    let second = data[at + 1];
-    let low = short_count(second);
-    if 0x80 <= second {
-        if second < 0xC0 {
-            fill_block(pixels, out, data[at + 2]);
-            return store_literal(data, at + 3, pixels, out + low);
-        }
-        let end = fill_run(pixels, out, long_count(second, data[at + 2]), data[at + 3]);
-        return Spot {
-            at: at + 4,
-            out: end,
-        };
+    let count = short_count(data[at + 1]);
+    fill_short(pixels, out, count, data[at + 2]);
+    store_literal(data, at + 3, pixels, out + count)
+}
+
+// Stores what mostly follows a run of color 0, as far as it is there: a pixel by itself, and a short run of a color.
+fn store_stroke(data: &[u8], at: usize, pixels: &mut [u8], out: usize) -> Spot
+    requires { ⌜ (at + 5 ≤ length (now «data»)) × (out + 65 ≤ length (now pixels)) × Storing (now «data») (now pixels) at out ⌝ }
+    ensures { λ r. ⌜ (at ≤ r .at) × Storing (now («data» .entry)) (now (pixels .exit)) (r .at) (r .out) ⌝ }
+{
+    let spot = store_literal(data, at, pixels, out);
+    let next = spot.at;
+    if data[next] != 0 {
+        return spot;
     }
-    if second < 0x40 {
-        fill_block(pixels, out, 0);
-        return store_literal(data, at + 2, pixels, out + low);
+    let second = data[next + 1];
+    if second < 0x80 {
+        return spot;
     }
-    let end = fill_run(pixels, out, long_count(second, data[at + 2]), 0);
+    if 0xC0 <= second {
+        return spot;
+    }
+    store_color(data, next, pixels, spot.out)
+}
+
+// Stores a long run of color 0, one of at most 128 pixels by a whole block and with the pixel by itself that mostly follows it.
+fn store_long_zeros(data: &[u8], at: usize, pixels: &mut [u8], out: usize) -> Spot
+    requires { ⌜ (at + 8 ≤ length (now «data»)) × (getD (now «data») at 0 ≡ 0) × (0x40 ≤ getD (now «data») (at + 1) 0) × (getD (now «data») (at + 1) 0 < 0x80) × (out + 129 ≤ length (now pixels)) × Storing (now «data») (now pixels) at out ⌝ }
+    ensures { λ r. ⌜ (at < r .at) × Storing (now («data» .entry)) (now (pixels .exit)) (r .at) (r .out) ⌝ }
+{
+    let count = long_count(data[at + 1], data[at + 2]);
+    if count <= 128 {
+        fill_exactly(pixels, out, 128, 0);
+        return store_literal(data, at + 3, pixels, out + count);
+    }
+    let end = fill_run(pixels, out, count, 0);
     Spot {
         at: at + 3,
         out: end,
     }
 }
 
-// Stores eight bytes that are one pixel each.
+// Stores the run of a code that begins with the byte 00, mostly with what follows it. An end of line is stored as a run of no pixels. Runs
+// of few pixels are stored by a whole block: the pixels after the run are stored later.
+fn store_escape(data: &[u8], at: usize, pixels: &mut [u8], out: usize) -> Spot
+    requires { ⌜ (at + 8 ≤ length (now «data»)) × (getD (now «data») at 0 ≡ 0) × (out + 129 ≤ length (now pixels)) × Storing (now «data») (now pixels) at out ⌝ }
+    ensures { λ r. ⌜ (at < r .at) × Storing (now («data» .entry)) (now (pixels .exit)) (r .at) (r .out) ⌝ }
+{
+    let second = data[at + 1];
+    if second < 0x40 {
+        fill_exactly(pixels, out, 64, 0);
+        return store_stroke(data, at + 2, pixels, out + short_count(second));
+    }
+    if second < 0x80 {
+        return store_long_zeros(data, at, pixels, out);
+    }
+    if second < 0xC0 {
+        return store_color(data, at, pixels, out);
+    }
+    let end = fill_run(pixels, out, long_count(second, data[at + 2]), data[at + 3]);
+    Spot {
+        at: at + 4,
+        out: end,
+    }
+}
+
+// Stores eight bytes that are one pixel each. It reads them all before it stores one, so that the compiler
+// need not read again what the test has read.
 fn store_eight(data: &[u8], at: usize, pixels: &mut [u8], out: usize)
     requires { ⌜ (at + 8 ≤ length (now «data»)) × (out + 8 ≤ length (now pixels)) × Literals (now «data») at 8 × Storing (now «data») (now pixels) at out ⌝ }
     ensures { λ _. ⌜ Storing (now («data» .entry)) (now (pixels .exit)) (at + 8) (out + 8) ⌝ }
 {
-    let mut i: usize = 0;
-    while i < 8 {
-        pixels[out + i] = data[at + i];
-        i += 1;
-    }
+    let a = data[at];
+    let b = data[at + 1];
+    let c = data[at + 2];
+    let d = data[at + 3];
+    let e = data[at + 4];
+    let f = data[at + 5];
+    let g = data[at + 6];
+    let h = data[at + 7];
+    pixels[out] = a;
+    pixels[out + 1] = b;
+    pixels[out + 2] = c;
+    pixels[out + 3] = d;
+    pixels[out + 4] = e;
+    pixels[out + 5] = f;
+    pixels[out + 6] = g;
+    pixels[out + 7] = h;
 }
 
-// Stores the pixels of one code or more, where none has bytes missing and there is room for a block and more.
+// Stores the pixels of one code or more, where none has bytes missing and there is room for the blocks of one turn.
 fn store_some(data: &[u8], at: usize, pixels: &mut [u8], out: usize) -> Spot
-    requires { ⌜ (at + 8 ≤ length (now «data»)) × (out + 72 ≤ length (now pixels)) × Storing (now «data») (now pixels) at out ⌝ }
+    requires { ⌜ (at + 8 ≤ length (now «data»)) × (out + 129 ≤ length (now pixels)) × Storing (now «data») (now pixels) at out ⌝ }
     ensures { λ r. ⌜ (at < r .at) × Storing (now («data» .entry)) (now (pixels .exit)) (r .at) (r .out) ⌝ }
 {
     let b = data[at];
@@ -180,7 +232,7 @@ pub fn store_rle(data: &[u8], pixels: &mut [u8])
 {
     let mut at: usize = 0;
     let mut out: usize = 0;
-    while 8 <= data.len() - at && 72 <= pixels.len() - out {
+    while 8 <= data.len() - at && 129 <= pixels.len() - out {
         let spot = store_some(data, at, pixels, out);
         at = spot.at;
         out = spot.out;

@@ -31,7 +31,7 @@ stroke-at-requires : tie.Need-stroke-at-requires
 stroke-at-requires c κs = search needs
 
 returns : tie.Need-returns
-returns c = let s = c .before .before .before .before .before in let l = now (s .args .«data») in let at = s .args .at in (omega (arith, c .stroke-at .ensures .order), onward-run (run-here l at (omega arith) (s .pre .1) (s .pre .2) (run-short-zero (getD l (at + 1) 0) _ (getD l (at + 2) 0 ∷ getD l (at + 3) 0 ∷ []) (c .before .short-count .ensures) (c .before .before .if1 .taken))) (c .stroke-at .ensures))
+returns c = let s = c .before .before .before .before .before in let l = now (s .args .«data») in let at = s .args .at in (omega (arith, c .stroke-at .ensures .1 .order), omega (arith, c .before .short-count .ensures, c .stroke-at .ensures .0), onward-run (run-here l at (omega arith) (s .pre .1) (s .pre .2) (run-short-zero (getD l (at + 1) 0) _ (getD l (at + 2) 0 ∷ getD l (at + 3) 0 ∷ []) (c .before .short-count .ensures) (c .before .before .if1 .taken))) (c .stroke-at .ensures .1))
 
 add-long-count : tie.Need-add-long-count
 add-long-count c = search needs
@@ -52,7 +52,7 @@ stroke-at-requires-2 : tie.Need-stroke-at-requires-2
 stroke-at-requires-2 c κs = search needs
 
 returns-2 : tie.Need-returns-2
-returns-2 c = let s = c .before .before .before .before .before .before .before in let l = now (s .args .«data») in let at = s .args .at in (omega (arith, c .stroke-at2 .ensures .order), onward-run (run-here l at (omega arith) (s .pre .1) (s .pre .2) (ap (λ (n : ℕ). found (run n 0) 3) (c .before .long-count .ensures .0) ∙ run-long-zero (getD l (at + 1) 0) _ (getD l (at + 2) 0 ∷ getD l (at + 3) 0 ∷ []) refl (c .before .before .before .before .if1 .left) (c .before .before .before .if2 .taken))) (c .stroke-at2 .ensures))
+returns-2 c = let s = c .before .before .before .before .before .before .before in let l = now (s .args .«data») in let at = s .args .at in (omega (arith, c .stroke-at2 .ensures .1 .order), omega (arith, c .before .long-count .ensures .1, c .stroke-at2 .ensures .0), onward-run (run-here l at (omega arith) (s .pre .1) (s .pre .2) (ap (λ (n : ℕ). found (run n 0) 3) (c .before .long-count .ensures .0) ∙ run-long-zero (getD l (at + 1) 0) _ (getD l (at + 2) 0 ∷ getD l (at + 3) 0 ∷ []) refl (c .before .before .before .before .if1 .left) (c .before .before .before .if2 .taken))) (c .stroke-at2 .ensures .1))
 
 short-count-requires-2 : tie.Need-short-count-requires-2
 short-count-requires-2 c κs = search needs
@@ -67,7 +67,7 @@ pixels-at-requires : tie.Need-pixels-at-requires
 pixels-at-requires c κs = search needs
 
 returns-3 : tie.Need-returns-3
-returns-3 c = let s = c .before .before .before .before .before .before .before in let l = now (s .args .«data») in let at = s .args .at in (omega (arith, c .pixels-at .ensures .order), onward-run (short-color-here l at (omega arith) (s .pre .1) (c .before .short-count2 .ensures) (c .before .before .before .if2 .left) (c .before .before .if3 .taken)) (c .pixels-at .ensures))
+returns-3 c = let s = c .before .before .before .before .before .before .before in let l = now (s .args .«data») in let at = s .args .at in (omega (arith, c .pixels-at .ensures .1 .order), omega (arith, c .before .short-count2 .ensures, c .pixels-at .ensures .0), onward-run (short-color-here l at (omega arith) (s .pre .1) (c .before .short-count2 .ensures) (c .before .before .before .if2 .left) (c .before .before .if3 .taken)) (c .pixels-at .ensures .1))
 
 add-long-count-2 : tie.Need-add-long-count-2
 add-long-count-2 c = search needs
@@ -85,7 +85,7 @@ add-t24 : tie.Need-add-t24
 add-t24 c = search needs
 
 returns-4 : tie.Need-returns-4
-returns-4 c = let s = c .before .before .before .before .before .before .before in let l = now (s .args .«data») in let at = s .args .at in (omega arith, onward-run (run-here l at (omega arith) (s .pre .1) (s .pre .2) (ap (λ (n : ℕ). found (run n (getD l (at + 3) 0)) 4) (c .long-count2 .ensures .0) ∙ run-long-color (getD l (at + 1) 0) _ (getD l (at + 2) 0 ∷ getD l (at + 3) 0 ∷ []) refl (c .before .before .before .before .if1 .left) (c .before .before .before .if2 .left) (c .before .before .if3 .left))) onward-none)
+returns-4 c = let s = c .before .before .before .before .before .before .before in let l = now (s .args .«data») in let at = s .args .at in (omega arith, omega (arith, c .long-count2 .ensures .1), onward-run (run-here l at (omega arith) (s .pre .1) (s .pre .2) (ap (λ (n : ℕ). found (run n (getD l (at + 3) 0)) 4) (c .long-count2 .ensures .0) ∙ run-long-color (getD l (at + 1) 0) _ (getD l (at + 2) 0 ∷ getD l (at + 3) 0 ∷ []) refl (c .before .before .before .before .if1 .left) (c .before .before .before .if2 .left) (c .before .before .if3 .left))) onward-none)
 
 pub run-at-spec : {M : Type 1} → statement M
 run-at-spec =

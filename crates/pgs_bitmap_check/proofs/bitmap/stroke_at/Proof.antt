@@ -11,7 +11,7 @@ shared-slice-read-if1 : tie.Need-shared-slice-read-if1
 shared-slice-read-if1 c = search needs
 
 returns : tie.Need-returns
-returns c = search needs
+returns c = (omega arith, onward-none)
 
 add-next : tie.Need-add-next
 add-next c = search needs
@@ -45,9 +45,11 @@ returns-2 c =
     let s = c .before .before .before .before .before .before .before .before in
     let l = now (s .args .«data») in
     let at = s .args .at in
-    let color = c .before .before .before .before .short-color-at .ensures (c .before .before .before .if2 .taken) in
-    onward-pixel (omega arith) (c .before .before .before .before .before .if1 .left)
-    (onward-run (short-color-here l (at + 1) (omega arith) (color .0) (c .before .short-count .ensures) (color .1) (color .2)) (c .pixels-at .ensures))
+    let color = c .before .before .before .before .short-color-at .ensures (c .before .before .before .if2 .taken) in (
+      omega (arith, c .before .short-count .ensures, c .pixels-at .ensures .0),
+      onward-pixel (omega arith) (c .before .before .before .before .before .if1 .left)
+          (onward-run (short-color-here l (at + 1) (omega arith) (color .0) (c .before .short-count .ensures) (color .1) (color .2)) (c .pixels-at .ensures .1)),
+    )
 
 add-t16 : tie.Need-add-t16
 add-t16 c = search needs
@@ -56,7 +58,7 @@ add-t17 : tie.Need-add-t17
 add-t17 c = search needs
 
 returns-3 : tie.Need-returns-3
-returns-3 c = onward-pixel (omega arith) (c .before .before .if1 .left) onward-none
+returns-3 c = (omega arith, onward-pixel (omega arith) (c .before .before .if1 .left) onward-none)
 
 pub stroke-at-spec : {M : Type 1} → statement M
 stroke-at-spec =

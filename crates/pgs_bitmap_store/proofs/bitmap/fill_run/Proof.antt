@@ -4,7 +4,7 @@ use native.Mathlib.Omega.{arith}
 use lib.ListN.{length}
 use denote.Ref.{now}
 use Rattle.pgs_bitmap_store.proofs.RunFill.{run-in-front}
-use Rattle.pgs_bitmap_store.proofs.BitmapStores.{fits-exactly, fits-partly}
+use Rattle.pgs_bitmap_store.proofs.BitmapStores.{fits-partly, block-fills}
 use borrow.Author.Needs.{needs}
 use Rattle.pgs_bitmap_store.proofs.bitmap.fill_run.Statement.{statement}
 use Rattle.pgs_bitmap_store.proofs.bitmap.fill_run.Tie as tie
@@ -42,8 +42,7 @@ returns-2 : tie.Need-returns-2
 returns-2 c =
     let s = c .before .before .before .before .before .before in
     let before = now (s .args .pixels) in
-    fits-exactly before _ (s .args .from) (s .args .count) (s .args .color) (omega arith)
-    (run-in-front before _ (s .args .from) (s .args .count) (s .args .count) (s .args .color) (omega arith) (omega arith) (c .before .before .fill-exactly2 .ensures))
+    block-fills (s .args .count) (omega arith) (omega arith) (c .before .before .fill-exactly2 .ensures)
 
 pub fill-run-spec : {M : Type 1} → statement M
 fill-run-spec =

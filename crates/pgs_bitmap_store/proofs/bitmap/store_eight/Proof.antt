@@ -1,73 +1,166 @@
--- `store_eight` meets its contract. The loop's invariant: the pixels of the bytes before this one are stored. The measure is what is left
--- of the eight. Assumes nothing.
-use mathlib.Core.Path.{_≡_, refl, _∙_, subst, subst₂}
-use Prim.Native.Nat.{ℕ, _+_, _-_, _≤_}
+-- `store_eight` meets its contract, pixel by pixel. Assumes nothing.
+use mathlib.Core.List.{List}
+use mathlib.Core.Path.{subst₂}
+use Prim.Native.Nat.{ℕ, _+_, _≤_, _<_}
+use native.Mathlib.Nat.{add-zero}
 use native.Mathlib.Omega.{arith}
 use lib.ListN.{length, getD, set, length-set}
 use denote.Ref.{now}
+use Rattle.pgs_run_length.specs.Literals.{Literals}
 use Rattle.pgs_bitmap_store.specs.Progress.{Storing}
 use Rattle.pgs_bitmap_store.proofs.BitmapStores.{storing-pixel}
+use borrow.Author.Needs.{needs}
 use Rattle.pgs_bitmap_store.proofs.bitmap.store_eight.Statement.{statement}
 use Rattle.pgs_bitmap_store.proofs.bitmap.store_eight.Tie as tie
 
-abbrev Inv-loop : tie.InvT-loop
-Inv-loop «data» at pixels₀ out i₀ pixels i = (i ≤ 8) × (length pixels ≡ length pixels₀) × Storing «data» pixels (at + i) (out + i)
+module _ (l : List ℕ) (at out : ℕ) where
+  -- so many of the eight are stored
+  abbrev After : ℕ → List ℕ → Type 0
+  After n now = (out + 8 ≤ length now) × Storing l now (at + n) (out + n)
 
-abbrev μ-loop : tie.MeasureT-loop
-μ-loop «data» at pixels₀ out i₀ pixels i = 8 - i
+  first-pixel : at + 8 ≤ length l → Literals l at 8 → {now : List ℕ} → out + 8 ≤ length now → Storing l now at out → After 1 (set now out (getD l at 0))
+  first-pixel there nonzero room s = (simp length-set room, storing-pixel s (omega arith) (rw add-zero at (nonzero 0 (omega arith))) (omega arith))
 
-loop-holds : tie.Need-loop-holds Inv-loop μ-loop
-loop-holds c =
-    (omega arith, refl, subst₂ (λ (a o : ℕ). Storing (now (c .args .«data»)) (now (c .args .pixels)) a o) {x = c .args .at} {y = c .args .at + 0} (omega arith) (omega arith) (c .pre .3))
+  next-pixel : at + 8 ≤ length l → Literals l at 8 → (n : ℕ) (now : List ℕ) → n < 8 → After n now → After (n + 1) (set now (out + n) (getD l (at + n) 0))
+  next-pixel there nonzero n now more s = (
+    simp length-set (s .0),
+    subst₂ (λ (a o : ℕ). Storing l (set now (out + n) (getD l (at + n) 0)) a o) {x = at + n + 1} {y = at + (n + 1)} {u = out + n + 1} {v = out + (n + 1)} (omega arith) (omega arith)
+        (storing-pixel (s .1) (omega arith) (nonzero n more) (omega arith)),
+  )
 
-add-pixels : tie.Need-add-pixels Inv-loop μ-loop
-add-pixels c = omega arith
+shared-slice-read-a : tie.Need-shared-slice-read-a
+shared-slice-read-a c = search needs
 
-shared-slice-read-pixels : tie.Need-shared-slice-read-pixels Inv-loop μ-loop
-shared-slice-read-pixels c = omega arith
+add-b : tie.Need-add-b
+add-b c = search needs
 
-add-pixels-2 : tie.Need-add-pixels-2 Inv-loop μ-loop
-add-pixels-2 c = omega arith
+shared-slice-read-b : tie.Need-shared-slice-read-b
+shared-slice-read-b c = search needs
 
-slice-write-pixels : tie.Need-slice-write-pixels Inv-loop μ-loop
-slice-write-pixels c = omega (arith, c .before .before .loop .inv .1)
+add-c : tie.Need-add-c
+add-c c = search needs
 
-add-i : tie.Need-add-i Inv-loop μ-loop
-add-i c = omega arith
+shared-slice-read-c : tie.Need-shared-slice-read-c
+shared-slice-read-c c = search needs
 
-loop-less : tie.Need-loop-less Inv-loop μ-loop
-loop-less c = omega arith
+add-d : tie.Need-add-d
+add-d c = search needs
 
-loop-again : tie.Need-loop-again Inv-loop μ-loop
-loop-again c =
-    let l = now (c .before .before .before .args .«data») in
-    let at = c .before .before .before .args .at + c .before .before .loop .i in
-    let out = c .before .before .before .args .out + c .before .before .loop .i in (
-      omega arith,
-      length-set (c .before .before .loop .pixels) out (getD l at 0) ∙ c .before .before .loop .inv .1,
-      subst₂ (λ (a o : ℕ). Storing l (set (c .before .before .loop .pixels) out (getD l at 0)) a o) {x = at + 1} {y = c .before .before .before .args .at + (c .before .before .loop .i + 1)} {u = out + 1} {v = c .before .before .before .args .out + (c .before .before .loop .i + 1)} (omega arith) (omega arith)
-          (storing-pixel (c .before .before .loop .inv .2) (omega arith) (c .before .before .before .pre .2 (c .before .before .loop .i) (c .before .loop-test .taken)) (omega (arith, c .before .before .loop .inv .1))),
-    )
+shared-slice-read-d : tie.Need-shared-slice-read-d
+shared-slice-read-d c = search needs
 
-same-length : tie.Need-same-length Inv-loop μ-loop
-same-length c = c .before .loop .inv .1
+add-e : tie.Need-add-e
+add-e c = search needs
 
-returns : tie.Need-returns Inv-loop μ-loop
-returns c = subst (λ (i : ℕ). Storing (now (c .before .before .args .«data»)) (c .before .loop .pixels) (c .before .before .args .at + i) (c .before .before .args .out + i)) {x = c .before .loop .i} {y = 8} (omega arith) (c .before .loop .inv .2)
+shared-slice-read-e : tie.Need-shared-slice-read-e
+shared-slice-read-e c = search needs
+
+add-f : tie.Need-add-f
+add-f c = search needs
+
+shared-slice-read-f : tie.Need-shared-slice-read-f
+shared-slice-read-f c = search needs
+
+add-g : tie.Need-add-g
+add-g c = search needs
+
+shared-slice-read-g : tie.Need-shared-slice-read-g
+shared-slice-read-g c = search needs
+
+add-h : tie.Need-add-h
+add-h c = search needs
+
+shared-slice-read-h : tie.Need-shared-slice-read-h
+shared-slice-read-h c = search needs
+
+slice-write-pixels : tie.Need-slice-write-pixels
+slice-write-pixels c = search needs
+
+add-pixels : tie.Need-add-pixels
+add-pixels c = search needs
+
+slice-write-pixels-2 : tie.Need-slice-write-pixels-2
+slice-write-pixels-2 c = simp length-set (omega arith)
+
+add-pixels-2 : tie.Need-add-pixels-2
+add-pixels-2 c = search needs
+
+slice-write-pixels-3 : tie.Need-slice-write-pixels-3
+slice-write-pixels-3 c = simp length-set (omega arith)
+
+add-pixels-3 : tie.Need-add-pixels-3
+add-pixels-3 c = search needs
+
+slice-write-pixels-4 : tie.Need-slice-write-pixels-4
+slice-write-pixels-4 c = simp length-set (omega arith)
+
+add-pixels-4 : tie.Need-add-pixels-4
+add-pixels-4 c = search needs
+
+slice-write-pixels-5 : tie.Need-slice-write-pixels-5
+slice-write-pixels-5 c = simp length-set (omega arith)
+
+add-pixels-5 : tie.Need-add-pixels-5
+add-pixels-5 c = search needs
+
+slice-write-pixels-6 : tie.Need-slice-write-pixels-6
+slice-write-pixels-6 c = simp length-set (omega arith)
+
+add-pixels-6 : tie.Need-add-pixels-6
+add-pixels-6 c = search needs
+
+slice-write-pixels-7 : tie.Need-slice-write-pixels-7
+slice-write-pixels-7 c = simp length-set (omega arith)
+
+add-pixels-7 : tie.Need-add-pixels-7
+add-pixels-7 c = search needs
+
+slice-write-pixels-8 : tie.Need-slice-write-pixels-8
+slice-write-pixels-8 c = simp length-set (omega arith)
+
+same-length : tie.Need-same-length
+same-length c = simp length-set
+
+returns : tie.Need-returns
+returns c =
+    let s = c .before .before .before .before .before .before .before .before in
+    let next = next-pixel (now (s .args .«data»)) (s .args .at) (s .args .out) (s .pre .0) (s .pre .2) in
+    let first = first-pixel (now (s .args .«data»)) (s .args .at) (s .args .out) (s .pre .0) (s .pre .2) (s .pre .1) (s .pre .3) in
+    next 7 _ (omega arith) (next 6 _ (omega arith) (next 5 _ (omega arith) (next 4 _ (omega arith) (next 3 _ (omega arith) (next 2 _ (omega arith) (next 1 _ (omega arith) first)))))) .1
 
 pub store-eight-spec : {M : Type 1} → statement M
 store-eight-spec =
     tie.close
     (tie.spec
-    Inv-loop
-    μ-loop
-    loop-holds
-    add-pixels
-    shared-slice-read-pixels
-    add-pixels-2
+    shared-slice-read-a
+    add-b
+    shared-slice-read-b
+    add-c
+    shared-slice-read-c
+    add-d
+    shared-slice-read-d
+    add-e
+    shared-slice-read-e
+    add-f
+    shared-slice-read-f
+    add-g
+    shared-slice-read-g
+    add-h
+    shared-slice-read-h
     slice-write-pixels
-    add-i
-    loop-less
-    loop-again
+    add-pixels
+    slice-write-pixels-2
+    add-pixels-2
+    slice-write-pixels-3
+    add-pixels-3
+    slice-write-pixels-4
+    add-pixels-4
+    slice-write-pixels-5
+    add-pixels-5
+    slice-write-pixels-6
+    add-pixels-6
+    slice-write-pixels-7
+    add-pixels-7
+    slice-write-pixels-8
     same-length
     returns)

@@ -1,7 +1,7 @@
 -- `store_literal` meets its contract. Assumes nothing.
 use native.Mathlib.Omega.{arith}
-use borrow.Author.Needs.{needs}
 use Rattle.pgs_bitmap_store.proofs.BitmapStores.{storing-pixel}
+use borrow.Author.Needs.{needs}
 use Rattle.pgs_bitmap_store.proofs.bitmap.store_literal.Statement.{statement}
 use Rattle.pgs_bitmap_store.proofs.bitmap.store_literal.Tie as tie
 
@@ -21,7 +21,7 @@ same-length : tie.Need-same-length
 same-length c = search needs
 
 returns : tie.Need-returns
-returns c = (omega arith, storing-pixel (c .before .before .pre .2) (c .before .before .pre .0) (c .if1 .taken) (c .before .before .pre .1))
+returns c = (omega arith, omega arith, omega arith, storing-pixel (c .before .before .pre .2) (c .before .before .pre .0) (c .if1 .taken) (c .before .before .pre .1))
 
 returns-2 : tie.Need-returns-2
 returns-2 c = search needs

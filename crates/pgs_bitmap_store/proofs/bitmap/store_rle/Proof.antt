@@ -29,7 +29,7 @@ sub-if1 : tie.Need-sub-if1 Inv-loop μ-loop
 sub-if1 c = c .before .loop .inv .1 .inside
 
 store-some-requires : tie.Need-store-some-requires Inv-loop μ-loop
-store-some-requires c κs = (omega (arith, c .before .before .before .loop .inv .1 .within), omega (arith, c .before .before .before .loop .inv .1 .inside, leb-true 72 (length (c .before .before .before .loop .pixels) - c .before .before .before .loop .out) (c .before .if1 .taken)), c .before .before .before .loop .inv .1)
+store-some-requires c κs = (omega (arith, c .before .before .before .loop .inv .1 .within), omega (arith, c .before .before .before .loop .inv .1 .inside, leb-true 129 (length (c .before .before .before .loop .pixels) - c .before .before .before .loop .out) (c .before .if1 .taken)), c .before .before .before .loop .inv .1)
 
 loop-less : tie.Need-loop-less Inv-loop μ-loop
 loop-less c = omega (arith, c .before .before .store-some .ensures .0, c .before .before .store-some .ensures .1 .within)
