@@ -173,7 +173,7 @@ impl Painter {
         Ok(Plane { width, height, pts: shown.pts as u32, pixels: &self.plane[..4 * width * height] })
     }
 
-    /// Takes the memory that a set needs.
+    /// Takes the memory that a set needs, and keeps more of it only where both parts together stay within the limit.
     fn grow(&mut self, stream: &[u8], set: u64) -> Result<()> {
         let sets = parse_display_sets(stream)?;
         let record = sets.get(set as usize).ok_or(Refusal::NoSuchSet)?;
@@ -187,8 +187,15 @@ impl Painter {
         if scratch + plane > self.limit as u64 {
             return Err(Refusal::BufferTooSmall);
         }
-        self.scratch.resize(self.scratch.len().max(scratch as usize), 0);
-        self.plane.resize(self.plane.len().max(plane as usize), 0);
+        let (scratch, plane) = (scratch as usize, plane as usize);
+        let (most_scratch, most_plane) = (self.scratch.len().max(scratch), self.plane.len().max(plane));
+        if most_scratch + most_plane <= self.limit {
+            self.scratch.resize(most_scratch, 0);
+            self.plane.resize(most_plane, 0);
+        } else {
+            self.scratch = vec![0; scratch];
+            self.plane = vec![0; plane];
+        }
         Ok(())
     }
 }

@@ -173,6 +173,27 @@ fn planes() {
     assert_eq!(painter.paint(&crops, 0), Err(Refusal::ObjectNotInSet));
 }
 
+/// A set with a plane of this many pixels and `objects` objects of two pixels each, which nothing shows.
+fn unshown(width: u16, objects: u32) -> Vec<u8> {
+    let mut set = pgs::encode_pcs(TIMES, &Pcs { width, ..PCS }, &[]).unwrap();
+    for id in 0..objects {
+        set.extend(pgs::encode_ods(TIMES, &fragment(id, 0xC0, 6), &[1, 1]).unwrap());
+    }
+    set.extend(pgs::encode_end(TIMES).unwrap());
+    set
+}
+
+#[test]
+fn a_painter_stays_within_its_limit() {
+    let mut painter = pgs::Painter::new(24);
+    for _ in 0..2 {
+        assert!(painter.paint(&unshown(6, 0), 0).is_ok()); // a plane of 24 bytes
+        assert!(painter.paint(&unshown(1, 10), 0).is_ok()); // a plane of 4, and 20 pixels of bitmaps
+        assert_eq!(painter.paint(&unshown(2, 10), 0), Err(Refusal::BufferTooSmall));
+        assert_eq!(painter.paint(&unshown(6, 1), 0), Err(Refusal::BufferTooSmall));
+    }
+}
+
 #[test]
 fn cards() {
     let stream = stream();

@@ -10,24 +10,13 @@ use lib.Dec.{eqb, ltb, leb}
 use lib.ListN.{length, replicate, length-append, length-replicate}
 use borrow.Author.Tests.{eqb-true}
 use Rattle.pgs_base.specs.Outcome.{Verdict, accepted, refused, andThen, unless, pick}
+use Rattle.pgs_base.proofs.Outcomes.{first-accepts, second-holds, holds}
 use Rattle.pgs_run_length.specs.RunLength.{Code, run, lineEnd, codesOf, pixelsOf}
 use Rattle.pgs_bitmap_check.specs.Bitmap.{counted, stopped, atEnd, readFrom, readingOf, bitmapOf}
 
--- what an accepted verdict tells
+-- a refusal is not accepted
 never : {A : Type 0} {k : ℕ} → refused k ≡ accepted → A
 never {A} {k} e = let z : _≡_ {A = ℕ} 0 1 = cc in absurd (omega arith)
-
-then-accepted : (u v : Verdict) → andThen u v ≡ accepted → v ≡ accepted
-then-accepted accepted v e = e
-then-accepted (refused k) v e = never e
-
-both-accepted : (u v : Verdict) → andThen u v ≡ accepted → u ≡ accepted
-both-accepted accepted v e = refl
-both-accepted (refused k) v e = never e
-
-unless-accepted : (k : ℕ) (t : Bool) → unless k t ≡ accepted → t ≡ true
-unless-accepted k true e = refl
-unless-accepted k false e = never e
 
 module _ (width height : ℕ) where
   one-line : (lines : ℕ) → (lines + 1) * width ≡ lines * width + width
@@ -37,8 +26,8 @@ module _ (width height : ℕ) where
   ended-area : (lines column : ℕ) → andThen (unless 31 (eqb column 0)) (unless 32 (eqb lines height)) ≡ accepted
       → lines * width + column ≡ height * width
   ended-area lines column h =
-      let none : column ≡ 0 = eqb-true column 0 (unless-accepted 31 (eqb column 0) (both-accepted _ (unless 32 (eqb lines height)) h)) in
-      let all : lines ≡ height = eqb-true lines height (unless-accepted 32 (eqb lines height) (then-accepted (unless 31 (eqb column 0)) _ h)) in
+      let none : column ≡ 0 = eqb-true column 0 (holds 31 (eqb column 0) (first-accepts _ (unless 32 (eqb lines height)) h)) in
+      let all : lines ≡ height = eqb-true lines height (holds 32 (eqb lines height) (second-holds (unless 31 (eqb column 0)) _ h)) in
       rw (none, all) (omega arith)
 
   end-area : (lines column : ℕ) → atEnd width height lines column ≡ accepted → lines * width + column ≡ height * width
@@ -49,7 +38,7 @@ module _ (width height : ℕ) where
           → lines * width + column ≡ height * width
       go true true f h =
           let full : column ≡ width = eqb-true column width f in
-          let all : lines + 1 ≡ height = eqb-true (lines + 1) height (unless-accepted 32 (eqb (lines + 1) height) h) in
+          let all : lines + 1 ≡ height = eqb-true (lines + 1) height (holds 32 (eqb (lines + 1) height) h) in
           rw (full, ← all, one-line)
       go true false f h = ended-area lines column h
       go false wide f h = ended-area lines column h
@@ -74,7 +63,7 @@ module _ (width height : ℕ) where
 
   area : (lines column : ℕ) (codes : List Code) (ended : Verdict) → readFrom width height lines column codes ended .verdict ≡ accepted
       → lines * width + column + length (pixelsOf codes) ≡ height * width
-  area lines column [] ended e = omega (arith, end-area lines column (then-accepted ended (atEnd width height lines column) e))
+  area lines column [] ended e = omega (arith, end-area lines column (second-holds ended (atEnd width height lines column) e))
   area lines column (run count color ∷ codes) ended e =
       run-area lines column count color codes ended (leb (column + count) width) (area lines (column + count) codes ended) e
   area lines column (lineEnd ∷ codes) ended e =

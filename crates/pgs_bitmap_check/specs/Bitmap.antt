@@ -54,6 +54,6 @@ abbrev pub readingOf : List ℕ → (width height : ℕ) → Reading
 readingOf bytes width height = readOn width height 0 0 bytes
 
 -- The pixels of a bitmap, row by row. Where the bitmap is accepted there are width times height of them (`bitmap-area` in
--- proofs/BitmapArea.antt), so none past the last line is stored.
+-- proofs/BitmapArea.antt of pgs_bitmap), so none past the last line is stored.
 abbrev pub bitmapOf : List ℕ → List ℕ
 bitmapOf bytes = pixelsOf (codesOf bytes .codes)

@@ -23,7 +23,7 @@ pub fn pgs_clear_palette(table: &mut [u8]) -> u8
     ensures { λ r. ⌜ TableCall cleared (now (table .entry)) (now (table .exit)) r ⌝ }
 {
     match clear(table) {
-        Updated::Refused(why) => why.number(),
+        Updated::Refused(too_short) => too_short.number(),
         Updated::Done => 0,
     }
 }

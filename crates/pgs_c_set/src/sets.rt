@@ -10,8 +10,8 @@ pub fn pgs_parse_display_sets(stream: &[u8], sets: &mut [[u64; 3]], count: &mut 
 {
     match parse_display_sets(stream, sets) {
         SetsAnswer::Refused(why) => why.number(),
-        SetsAnswer::Sets(found) => {
-            *count = found as u64;
+        SetsAnswer::Sets(sets_found) => {
+            *count = sets_found as u64;
             0
         }
     }

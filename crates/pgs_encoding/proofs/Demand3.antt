@@ -115,9 +115,6 @@ record From (cs : List (List ℕ)) (a : ℕ) (o : List ℕ) (w : Written) : Type
 
 -- after an accepted write of c at a
 module _ (c : List ℕ) (a : ℕ) (o : List ℕ) (fits : a + length c ≤ length o) where
-  stored : List ℕ
-  stored = take a o ++ (c ++ drop (length c) (drop a o))
-
   front : length (take a o ++ c) ≡ a + length c
   front = rw (length-append, length-take-le a o (omega arith))
 

@@ -15,7 +15,6 @@ use Rattle.pgs_base.specs.Outcome.{accepted, pick}
 use Rattle.pgs_base.proofs.Bytes.{num-byte}
 use Rattle.pgs_base.proofs.Digits.{bytes-drop, bytes-take}
 use Rattle.pgs_views.specs.declared.«segment_type».SegmentType.{SegmentType}
-use Rattle.pgs_views.specs.declared.«segment_type».SegmentType.the-variants as kinds
 use Rattle.pgs_segment.specs.Fields.{SegmentFields, bodyVerdict, bodyOf, kindByte}
 use Rattle.pgs_segment.specs.Header.{ptsOf, dtsOf, kindOf, sizeOf, marked}
 use Rattle.pgs_segment.specs.OneSegment.{segmentType, usedBy, bodyAt, segmentVerdict, fieldsOf}

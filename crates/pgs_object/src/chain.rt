@@ -3,7 +3,6 @@ use pgs_base::refusal::Refusal;
 use pgs_ods::ods::Dimensions;
 use pgs_ods::ods::Ods;
 use pgs_ods::ods::OdsAnswer;
-use pgs_records::BodyList;
 use pgs_segment::header::header_at;
 use pgs_set::set::is_end;
 use pgs_views::fragment_flag::FragmentFlag;
@@ -44,6 +43,9 @@ pub(crate) struct FragmentHead {
     // the length of its data
     pub len: usize,
 }
+
+// A chain is a row of ten numbers in a table: 0 id, 1 version, 2 width, 3 height, 4 declared length, 5 whether it is closed, 6 whether it
+// is copied, 7 the place of its first segment, 8 the place of that segment's data, 9 the joined length.
 
 // How many chains there are, or why a fragment is refused.
 pub(crate) enum ChainsAnswer {

@@ -1,2 +1,2 @@
-// The body of a ODS (01, module 3).
+// The body of an ODS (01, module 3).
 pub mod ods;

@@ -162,7 +162,7 @@ fn escape_at(data: &[u8], at: usize) -> NextCode
     }
 }
 
-// The code at a place of the data. For a reader that cannot hold the data while it stores.
+// The code at a place of the data: a place, and not a part, since the data may lie in memory that the reader stores to.
 pub fn next_code(data: &[u8], at: usize) -> CodeAt
     ensures { λ r. ⌜ codeAt r ≡ codeOf (drop at (now («data» .entry))) ⌝ }
 {

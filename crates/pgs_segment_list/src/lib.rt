@@ -58,6 +58,7 @@ fn record_at(s: &[u8], at: usize) -> Placed
             },
             next: at + (SegmentHeader::SIZE + header.segment_size as usize),
         },
+        // cannot be: the head is whole
         HeaderAnswer::Refused(why) => Placed {
             segment: SegmentRecord {
                 place: at,

@@ -63,7 +63,8 @@ fn grouped(state: Grouping, n: usize) -> SetsAnswer
     }
 }
 
-// Why a stream is refused of which a segment is refused in grouping, with `rest` after that segment: 1 to 7 anywhere come before 8 to 15.
+// The answer where grouping refuses a segment by `why`, and `rest` is what follows it: 1 to 7 anywhere come before 8 to 15, so a segment
+// of the rest that is refused comes first.
 fn refused_before(rest: &[u8], why: Refusal) -> SetsAnswer
     ensures { λ r. ⌜ setsOutcome r ≡ outcomeOf (andThen (streamVerdict (now (rest .entry))) (refused (numberOf why))) 0 ⌝ }
 {

@@ -60,7 +60,7 @@ fn segment_record(header: SegmentHeader, at: usize) -> [u64; 5]
     ]
 }
 
-// Stores the records of a stream that is known to be accepted.
+// Stores the records of the n segments of a stream.
 fn fill_segments(s: &[u8], n: usize, list: &mut [[u64; 5]])
     requires { ⌜ n ≡ segmentCount (now s) ⌝ }
     requires { ⌜ n ≤ length (now list) ⌝ }
@@ -70,7 +70,7 @@ fn fill_segments(s: &[u8], n: usize, list: &mut [[u64; 5]])
     let mut at: usize = 0;
     while i < n {
         match SegmentHeader::parse(&s[at..]) {
-            // cannot be: the stream was accepted
+            // cannot be: n segments were read
             HeaderAnswer::Refused(_) => {
                 return;
             }

@@ -40,6 +40,7 @@ fn rewrite_pcs(pts: u32, dts: u32, body: &[u8], out: &mut [u8]) -> WriteAnswer
 {
     let mut placements = [[0u16; 10]; PLACEMENTS];
     match Pcs::parse(body, &mut placements) {
+        // cannot be: the body is whole
         PcsAnswer::Refused(why) => WriteAnswer::Refused(why),
         PcsAnswer::Placements(pcs, n) => encode_pcs(pts, dts, pcs, &placements[..n], out),
     }
@@ -52,6 +53,7 @@ fn rewrite_wds(pts: u32, dts: u32, body: &[u8], out: &mut [u8]) -> WriteAnswer
 {
     let mut windows = [[0u16; 5]; WINDOWS];
     match Wds::parse(body, &mut windows) {
+        // cannot be: the body is whole
         WdsAnswer::Refused(why) => WriteAnswer::Refused(why),
         WdsAnswer::Windows(n) => encode_wds(pts, dts, &windows[..n], out),
     }
@@ -65,6 +67,7 @@ fn rewrite_pds(pts: u32, dts: u32, body: &[u8], out: &mut [u8]) -> WriteAnswer
 {
     let mut entries = [[0u8; 5]; ENTRIES];
     match Pds::parse(body, &mut entries) {
+        // cannot be: the body is whole
         PdsAnswer::Refused(why) => WriteAnswer::Refused(why),
         PdsAnswer::Entries(pds, n) => encode_pds(pts, dts, pds, &entries[..n], out),
     }
@@ -76,6 +79,7 @@ fn rewrite_ods(pts: u32, dts: u32, body: &[u8], out: &mut [u8]) -> WriteAnswer
     ensures { λ r. ⌜ Wrote (segmentWith pts dts SegmentType.Ods (now (body .entry))) (now (out .entry)) (now (out .exit)) r ⌝ }
 {
     match Ods::parse(body) {
+        // cannot be: the body is whole
         OdsAnswer::Refused(why) => WriteAnswer::Refused(why),
         OdsAnswer::Fragment(ods, data) => {
             let start = data.start;
@@ -106,6 +110,7 @@ pub(crate) fn rewrite_segment(l: &[u8], out: &mut [u8]) -> WriteAnswer
     ensures { λ r. ⌜ Wrote (fieldsOf (now (l .entry))) (now (out .entry)) (now (out .exit)) r ⌝ }
 {
     match SegmentHeader::parse(l) {
+        // cannot be: the segment was accepted
         HeaderAnswer::Refused(why) => WriteAnswer::Refused(why),
         HeaderAnswer::Header(head) => {
             let end = SegmentHeader::SIZE + head.segment_size as usize;

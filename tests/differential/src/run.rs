@@ -4,7 +4,7 @@ use crate::compare::Tally;
 use crate::record::Recorder;
 use crate::regressions;
 use crate::shrink::{smallest, Form};
-use std::{env, fs, process};
+use std::{env, fs, process, thread};
 
 pub struct Run {
     pub seed: u64,
@@ -73,6 +73,22 @@ impl Run {
             Err(why) => println!("  not kept: {why}"),
         }
         process::exit(1);
+    }
+
+    /// Compares the inputs of each part side by side, with a tally of its own.
+    pub fn compare_parts<T: Sync>(&mut self, parts: &[T], inputs: fn(&mut Run, &T)) {
+        let (seed, streams) = (self.seed, self.streams);
+        let compare = |part| {
+            let mut run = Run::new(seed, streams);
+            inputs(&mut run, part);
+            run.tally
+        };
+        thread::scope(|scope| {
+            let running: Vec<_> = parts.iter().map(|part| scope.spawn(move || compare(part))).collect();
+            for part in running {
+                self.tally.add(&part.join().expect("a comparison that ends"));
+            }
+        });
     }
 
     /// Compares each stream that is made.

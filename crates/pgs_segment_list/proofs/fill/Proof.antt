@@ -157,12 +157,9 @@ module _ {M : Type 1} (𝓤 : URA M) (H : Heap 𝓤) (A : Atoms 𝓤) (W : Given
     said : (at : ℕ) (r : Placed) → ent 𝓤 (ensured 𝓤 H A record-at.ended (record-at.clauses 𝓤 H A mem run) (κ, tt) (s, (at, tt)) tt r) (fact 𝓤 (Said at r))
     said at r = exE 𝓤 _ (λ ws. snd∗ 𝓤 (sem 𝓤 H A (lasts record-at.ended (κ, tt) (s, (at, tt)) ws)) (fact 𝓤 (Said at r)))
 
-    -- the machine values of a record, and of what `record_at` answers
+    -- the machine value of a record
     abbrev recordVal : SegmentRecord → Val
     recordVal r = R′.lowered r
-
-    abbrev placedVal : Placed → Val
-    placedVal r = vstruct (vcons (recordVal (r .segment)) (vcons (vint w64 (r .next)) vnil))
 
     exits : (l : List SegmentRecord) → length l ≡ length start → l ≡ laid (planVerdict (s .now) (length start)) (segmentRecords (s .now)) start
         → ent 𝓤 (⋆ 𝓤 H A (‵ (fobs γ (codedHoleys R.the-row .code (heres R.the-row l))) ∷ ‵ (fbor κ′ (Held R.the-row (length l) b o γ)) ∷ ‵ (flft κ′ q′) ∷ ‵ (flft κ q) ∷ ‵ Own ∷ [])) (Post vunit)

@@ -123,12 +123,9 @@ module _ {M : Type 1} (𝓤 : URA M) (H : Heap 𝓤) (A : Atoms 𝓤) (W : Given
     plan-said : (p : Plan) → ent 𝓤 (ensured 𝓤 H A plan-for.ended (plan-for.clauses 𝓤 H A mem run) (κ, tt) (s, (n, tt)) tt p) (fact 𝓤 (Says p))
     plan-said p = exE 𝓤 _ (λ ws. snd∗ 𝓤 (sem 𝓤 H A (lasts plan-for.ended (κ, tt) (s, (n, tt)) ws)) (fact 𝓤 (Says p)))
 
-    -- the machine values of the plan's answer and of the plan
+    -- the machine value of the plan's answer
     abbrev answerVal : Plan → Val
     answerVal p = EL.val S.the-type S′.the-laws (p .answer)
-
-    abbrev planVal : Plan → Val
-    planVal p = vstruct (vcons (answerVal p) (vcons (vint w64 (p .stored)) vnil))
 
     -- a unit is written by no bytes
     unit-typed : (w : Val) → Is unit tt (w ∷ []) → Holds (hasTy tyUnit w) × WT w

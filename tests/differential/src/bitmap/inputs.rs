@@ -6,6 +6,7 @@ use crate::generate::damaged;
 use crate::prng::Prng;
 use crate::run::{Group, Run};
 use crate::shrink::Form;
+use std::ops::Range;
 
 pub fn groups() -> Vec<Group> {
     let group = |name, inputs| Group { name, inputs };
@@ -37,10 +38,18 @@ fn compare(run: &mut Run, input: &[u8]) {
     run.compare(Form::Bitmap, "bitmap", input, check);
 }
 
+/// The longest group by far: its halves are compared side by side.
 fn every_short_data(run: &mut Run) {
+    if run.recorder.is_some() {
+        return short_data_at(run, &(0..4));
+    }
+    run.compare_parts(&[0..2, 2..4], short_data_at);
+}
+
+fn short_data_at(run: &mut Run, widths: &Range<u8>) {
     let all: Vec<u8> = (0..=255).collect();
     for len in 0..=3 {
-        every_data(run, len, &all);
+        every_data(run, len, &all, widths);
     }
 }
 
@@ -51,14 +60,14 @@ const TELLING: [u8; 24] = [
 ];
 
 fn every_telling_data(run: &mut Run) {
-    every_data(run, 4, &TELLING);
-    every_data(run, 5, &TELLING[..12]);
-    every_data(run, 6, &TELLING[..8]);
+    every_data(run, 4, &TELLING, &(0..4));
+    every_data(run, 5, &TELLING[..12], &(0..4));
+    every_data(run, 6, &TELLING[..8], &(0..4));
 }
 
-/// Every data of `len` bytes of an alphabet.
-fn every_data(run: &mut Run, len: usize, alphabet: &[u8]) {
-    for (width, height) in (0..4).flat_map(|w| (0..4).map(move |h| (w, h))) {
+/// Every data of `len` bytes of an alphabet, at these widths and heights of 0 to 3.
+fn every_data(run: &mut Run, len: usize, alphabet: &[u8], widths: &Range<u8>) {
+    for (width, height) in widths.clone().flat_map(|w| (0..4).map(move |h| (w, h))) {
         let mut letters = vec![0; len];
         let mut input = vec![0, width, 0, height];
         input.resize(4 + len, alphabet[0]);

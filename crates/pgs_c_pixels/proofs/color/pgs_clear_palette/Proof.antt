@@ -10,8 +10,8 @@ use Rattle.pgs_c_pixels.proofs.color.pgs_clear_palette.Tie as tie
 clear-requires : tie.Need-clear-requires
 clear-requires c κs = search needs
 
-enum-known-why : tie.Need-enum-known-why
-enum-known-why c = search needs
+enum-known-too-short : tie.Need-enum-known-too-short
+enum-known-too-short c = search needs
 
 number-requires : tie.Need-number-requires
 number-requires c κs = search needs
@@ -23,7 +23,7 @@ same-length : tie.Need-same-length
 same-length c = search needs
 
 returns : tie.Need-returns
-returns c = let d = c .before .before .before .before .before .before .clear .ensures in record { code = code-refused (sym (d .verdict) ∙ ap updateOf (c .before .before .why .given .1)) (c .number .ensures); changed = d .table }
+returns c = let d = c .before .before .before .before .before .before .clear .ensures in record { code = code-refused (sym (d .verdict) ∙ ap updateOf (c .before .before .too-short .given .1)) (c .number .ensures); changed = d .table }
 
 same-length-2 : tie.Need-same-length-2
 same-length-2 c = search needs
@@ -36,7 +36,7 @@ pgs-clear-palette-spec =
     tie.close
     (tie.spec
     clear-requires
-    enum-known-why
+    enum-known-too-short
     number-requires
     enum-told
     same-length

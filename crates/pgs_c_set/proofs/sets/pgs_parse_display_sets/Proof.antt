@@ -17,8 +17,8 @@ enum-known-why c = search needs
 number-requires : tie.Need-number-requires
 number-requires c κs = search needs
 
-enum-known-found : tie.Need-enum-known-found
-enum-known-found c = search needs
+enum-known-sets-found : tie.Need-enum-known-sets-found
+enum-known-sets-found c = search needs
 
 same-length : tie.Need-same-length
 same-length c = search needs
@@ -30,7 +30,7 @@ same-length-2 : tie.Need-same-length-2
 same-length-2 c = search needs
 
 returns-2 : tie.Need-returns-2
-returns-2 c = let e = ap setsOutcome (c .before .found .given .1) in list-accepted (c .before .before .before .before .parse-display-sets .ensures) (now (c .before .before .before .before .before .before .before .args .count)) e (value (c .before .before .before .before .parse-display-sets .ensures) e)
+returns-2 c = let e = ap setsOutcome (c .before .sets-found .given .1) in list-accepted (c .before .before .before .before .parse-display-sets .ensures) (now (c .before .before .before .before .before .before .before .args .count)) e (value (c .before .before .before .before .parse-display-sets .ensures) e)
 
 pub pgs-parse-display-sets-spec : {M : Type 1} → statement M
 pgs-parse-display-sets-spec =
@@ -39,7 +39,7 @@ pgs-parse-display-sets-spec =
     parse-display-sets-requires
     enum-known-why
     number-requires
-    enum-known-found
+    enum-known-sets-found
     same-length
     returns
     same-length-2
