@@ -7,7 +7,7 @@ use Rattle.pgs_base.proofs.Outcomes.{gave, gave-value, turned-down}
 use Rattle.pgs_calls.proofs.CallLaws.{code-refused, code-accepted, stays, turns}
 use Rattle.pgs_c_render.specs.Render.{RenderCall, renderCallVerdict, shownCells}
 use Rattle.pgs_color.specs.Bytes.{rgbOf}
-use Rattle.pgs_render.specs.Rendering.{Rendered, answerOf}
+use Rattle.pgs_rendering.specs.Rendering.{Rendered, answerOf}
 use Rattle.pgs_object.specs.Objects.{objectsOf, objectsVerdict}
 use Rattle.pgs_set.specs.Sets.{setNumber}
 

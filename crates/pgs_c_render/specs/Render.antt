@@ -6,8 +6,8 @@ use lib.ListN.{length}
 use Rattle.pgs_base.specs.Outcome.{Verdict, laid}
 use Rattle.pgs_calls.specs.Calls.{codeOf, becomes}
 use Rattle.pgs_color.specs.Bytes.{rgbOf}
-use Rattle.pgs_render.specs.Images.{lookIn}
-use Rattle.pgs_render.specs.Rendering.{colorsIn, pictureOf, earlyVerdict, contentVerdict, renderVerdict, leftBy, answerOf}
+use Rattle.pgs_rendering.specs.Images.{lookIn}
+use Rattle.pgs_rendering.specs.Rendering.{colorsIn, pictureOf, earlyVerdict, contentVerdict, renderVerdict, leftBy, answerOf}
 use Rattle.pgs_object.specs.Objects.{objectsOf, objectsVerdict}
 use Rattle.pgs_set.specs.Sets.{setNumber}
 

@@ -12,8 +12,8 @@ use Rattle.pgs_plane.specs.Placing.{imageOf}
 use Rattle.pgs_object.specs.Objects.{Fragment, Chain, objectId, widthOf, heightOf, objectsOf, objectsVerdict}
 use Rattle.pgs_set.specs.Sets.{setNumber, noSet, DisplaySet}
 use Rattle.pgs_object.specs.Reassembly.{anyMore, joinedData}
-use Rattle.pgs_render.specs.Images.{lookIn, bitmapsOf, areaOf, bitmapsVerdict, hasObject, placementsVerdict}
-use Rattle.pgs_render.specs.Rendering.{compositionOf, colorsIn, pictureOf, placementsIn, renderVerdict, earlyVerdict, contentVerdict, leftBy, answerOf, Rendered}
+use Rattle.pgs_rendering.specs.Images.{lookIn, bitmapsOf, areaOf, bitmapsVerdict, hasObject, placementsVerdict}
+use Rattle.pgs_rendering.specs.Rendering.{compositionOf, colorsIn, pictureOf, placementsIn, renderVerdict, earlyVerdict, contentVerdict, leftBy, answerOf, Rendered}
 use Rattle.pgs_excerpt.specs.Excerpt.{excerpt, atStart, movedFragment, moved, SamePainting}
 use Rattle.pgs_excerpt.proofs.Alone.{alone}
 use Rattle.pgs_excerpt.proofs.SameObjects.{data-moved, same-objects}

@@ -1,5 +1,1 @@
-pub mod Palettes
-pub mod Images
-pub mod Rendering
-pub mod Rows
-pub mod Steps
+pub mod Answers

@@ -8,7 +8,7 @@ ghost use Prim.Native.Nat.{_<_, _^_};
 ghost use lib.Dec.{leb};
 ghost use Rattle.pgs_base.specs.Outcome.{andThen, unless};
 ghost use Rattle.pgs_bitmap_check.specs.Outcomes.{outcome};
-ghost use Rattle.pgs_render.specs.Rows.{
+ghost use Rattle.pgs_rendering.specs.Rows.{
   Narrow,
   rowJoined,
   rowsJoined,

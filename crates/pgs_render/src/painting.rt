@@ -3,20 +3,14 @@ use pgs_paint::paint::paint_placement;
 use pgs_pcs::pcs::CompositionObject;
 use pgs_pcs::pcs::CompositionObjectCrop;
 use pgs_pcs::pcs::Cropping;
+use pgs_rendering::Bitmap;
 ghost use mathlib.Core.Path.{_≡_};
 ghost use mathlib.Core.List.{map};
 ghost use Prim.Native.Nat.{_+_, _*_, _≤_, _<_, _^_};
 ghost use lib.ListN.{length};
 ghost use Rattle.pgs_plane.specs.Placing.{tableColor};
 ghost use Rattle.pgs_plane.specs.Pictures.{paintedAll};
-ghost use Rattle.pgs_render.specs.Rows.{Narrow, rowsArea, bitmapAt, lookAt, croppingIn, placementIn};
-
-// Where an object's bitmap stands in the scratch.
-pub(crate) struct Bitmap {
-    pub width: u16,
-    pub height: u16,
-    pub place: usize,
-}
+ghost use Rattle.pgs_rendering.specs.Rows.{Narrow, rowsArea, bitmapAt, lookAt, croppingIn, placementIn};
 
 // The bitmap of an object id; the bitmaps stand one after another from `from` on.
 fn find_bitmap(rows: &[[u64; 7]], from: usize, id: u16) -> Bitmap

@@ -15,7 +15,7 @@ ghost use Rattle.pgs_color.specs.Bytes.{rgbOf};
 ghost use Rattle.pgs_palette.specs.Table.{laid, cleared};
 ghost use Rattle.pgs_set.specs.Sets.{throughEnd};
 ghost use Rattle.pgs_set.specs.Walks.{InSet, piecesAt};
-ghost use Rattle.pgs_render.specs.Palettes.{isPds, entriesNamed, entriesAmong};
+ghost use Rattle.pgs_rendering.specs.Palettes.{isPds, entriesNamed, entriesAmong};
 
 fn is_pds(kind: SegmentType) -> bool
     ensures { λ r. ⌜ r ≡ isPds kind ⌝ }

@@ -31,8 +31,9 @@ ghost use Rattle.pgs_object.specs.Objects.{objectsOf, objectsVerdict};
 ghost use Rattle.pgs_set.specs.Sets.{setNumber};
 ghost use Rattle.pgs_object.specs.Reassembly.{joinedData};
 ghost use Rattle.pgs_set.specs.Walks.{SetStands};
-ghost use Rattle.pgs_render.specs.Rendering.{Rendered, placementsIn, answerOf, renderOutcome};
-ghost use Rattle.pgs_render.specs.Steps.{
+ghost use Rattle.pgs_rendering.specs.Rendering.{Rendered, placementsIn, answerOf};
+ghost use Rattle.pgs_render.specs.Answers.{renderOutcome};
+ghost use Rattle.pgs_rendering.specs.Steps.{
   Listed,
   Opened,
   Composed,

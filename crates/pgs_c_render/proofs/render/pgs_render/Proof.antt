@@ -4,7 +4,7 @@ use borrow.Author.Needs.{needs}
 use denote.Ref.{now}
 use mathlib.Core.Path.{ap}
 use Rattle.pgs_c_render.proofs.RenderLaws.{render-refused, render-accepted}
-use Rattle.pgs_render.specs.Rendering.{renderOutcome}
+use Rattle.pgs_render.specs.Answers.{renderOutcome}
 use Rattle.pgs_c_render.proofs.render.pgs_render.Statement.{statement}
 use Rattle.pgs_c_render.proofs.render.pgs_render.Tie as tie
 

@@ -6,7 +6,7 @@ use mathlib.Core.Path.{refl}
 use native.Mathlib.Omega.{arith}
 use denote.Ref.{now}
 use lib.ListN.{length}
-use Rattle.pgs_render.proofs.RowLaws.{Presenting, presenting, presents-on, presents-not, presents-all}
+use Rattle.pgs_rendering.proofs.RowLaws.{Presenting, presenting, presents-on, presents-not, presents-all}
 use Rattle.pgs_render.proofs.objects.all_present.Statement.{statement}
 use Rattle.pgs_render.proofs.objects.all_present.Tie as tie
 

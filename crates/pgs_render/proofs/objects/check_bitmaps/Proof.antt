@@ -7,7 +7,7 @@ use native.Mathlib.Omega.{arith}
 use denote.Ref.{now}
 use lib.ListN.{length}
 use Rattle.pgs_bitmap_check.specs.Outcomes.{outcome}
-use Rattle.pgs_render.proofs.RowLaws.{Reading, reading, reads-not, reads-on, reads-all}
+use Rattle.pgs_rendering.proofs.RowLaws.{Reading, reading, reads-not, reads-on, reads-all}
 use Rattle.pgs_render.proofs.objects.check_bitmaps.Statement.{statement}
 use Rattle.pgs_render.proofs.objects.check_bitmaps.Tie as tie
 

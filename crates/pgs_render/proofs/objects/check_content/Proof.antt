@@ -5,8 +5,8 @@ use denote.Ref.{now}
 use mathlib.Core.Path.{sym, ap, _∙_}
 use Rattle.pgs_base.specs.Outcome.{unless}
 use Rattle.pgs_bitmap_check.specs.Outcomes.{outcome}
-use Rattle.pgs_render.specs.Rows.{allPresent}
-use Rattle.pgs_render.proofs.RowLaws.{content-refused, content-tested}
+use Rattle.pgs_rendering.specs.Rows.{allPresent}
+use Rattle.pgs_rendering.proofs.RowLaws.{content-refused, content-tested}
 use Rattle.pgs_render.proofs.objects.check_content.Statement.{statement}
 use Rattle.pgs_render.proofs.objects.check_content.Tie as tie
 

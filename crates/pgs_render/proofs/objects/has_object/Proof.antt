@@ -5,7 +5,7 @@ use Prim.Native.Nat.{_-_}
 use native.Mathlib.Omega.{arith}
 use denote.Ref.{now}
 use lib.ListN.{length}
-use Rattle.pgs_render.proofs.RowLaws.{Seeking, seeking, seeks-here, seeks-on, seeks-none}
+use Rattle.pgs_rendering.proofs.RowLaws.{Seeking, seeking, seeks-here, seeks-on, seeks-none}
 use Rattle.pgs_render.proofs.objects.has_object.Statement.{statement}
 use Rattle.pgs_render.proofs.objects.has_object.Tie as tie
 

@@ -1,6 +1,6 @@
 -- `joined_length` is 0 for data in the stream.
 -- Assumes nothing.
-use Rattle.pgs_render.proofs.RowLaws.{joined-none, joined-some}
+use Rattle.pgs_rendering.proofs.RowLaws.{joined-none, joined-some}
 use borrow.Author.Needs.{needs}
 use Rattle.pgs_render.proofs.objects.joined_length.Statement.{statement}
 use Rattle.pgs_render.proofs.objects.joined_length.Tie as tie

@@ -5,7 +5,7 @@ use Prim.Native.Nat.{_-_}
 use native.Mathlib.Omega.{arith}
 use denote.Ref.{now}
 use lib.ListN.{length}
-use Rattle.pgs_render.proofs.RowLaws.{Totaling, totaling, totals-within, totals-on, totaled}
+use Rattle.pgs_rendering.proofs.RowLaws.{Totaling, totaling, totals-within, totals-on, totaled}
 use Rattle.pgs_render.proofs.objects.joined_total.Statement.{statement}
 use Rattle.pgs_render.proofs.objects.joined_total.Tie as tie
 

@@ -6,7 +6,7 @@ use mathlib.Core.Path.{refl}
 use native.Mathlib.Omega.{arith}
 use denote.Ref.{now}
 use lib.ListN.{length}
-use Rattle.pgs_render.proofs.RowLaws.{Fitting, fitting, fits-not, fits-on, fits-all}
+use Rattle.pgs_rendering.proofs.RowLaws.{Fitting, fitting, fits-not, fits-on, fits-all}
 use Rattle.pgs_bitmap.proofs.DecodeAnswers.{area-fits}
 use Rattle.pgs_render.proofs.objects.objects_fit.Statement.{statement}
 use Rattle.pgs_render.proofs.objects.objects_fit.Tie as tie

@@ -1,6 +1,6 @@
 -- `cropping_of` tells a crop by its cell.
 -- Assumes nothing.
-use Rattle.pgs_render.proofs.PaintLaws.{crop-none, crop-some}
+use Rattle.pgs_rendering.proofs.PaintLaws.{crop-none, crop-some}
 use borrow.Author.Needs.{needs}
 use Rattle.pgs_render.proofs.painting.cropping_of.Statement.{statement}
 use Rattle.pgs_render.proofs.painting.cropping_of.Tie as tie

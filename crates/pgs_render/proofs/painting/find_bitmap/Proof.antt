@@ -6,7 +6,7 @@ use native.Mathlib.Omega.{arith}
 use denote.Ref.{now}
 use lib.ListN.{length}
 use Rattle.pgs_bitmap.proofs.DecodeAnswers.{area-fits}
-use Rattle.pgs_render.proofs.PaintLaws.{Seeing, seeing, sees-here, sees-within, sees-on, sees-none}
+use Rattle.pgs_rendering.proofs.PaintLaws.{Seeing, seeing, sees-here, sees-within, sees-on, sees-none}
 use Rattle.pgs_render.proofs.painting.find_bitmap.Statement.{statement}
 use Rattle.pgs_render.proofs.painting.find_bitmap.Tie as tie
 

@@ -6,7 +6,7 @@ use Prim.Native.Nat.{_-_, _*_}
 use native.Mathlib.Omega.{arith}
 use denote.Ref.{now}
 use lib.ListN.{length, getD}
-use Rattle.pgs_render.proofs.PaintLaws.{Painting, painting, paints-within, paints-on, painted-all, lent-part}
+use Rattle.pgs_rendering.proofs.PaintLaws.{Painting, painting, paints-within, paints-on, painted-all, lent-part}
 use Rattle.pgs_render.proofs.painting.paint_placements.Statement.{statement}
 use Rattle.pgs_render.proofs.painting.paint_placements.Tie as tie
 

@@ -1,6 +1,6 @@
 -- `placement_of` takes the cells apart.
 -- Assumes nothing.
-use Rattle.pgs_render.proofs.PaintLaws.{placed}
+use Rattle.pgs_rendering.proofs.PaintLaws.{placed}
 use borrow.Author.Needs.{needs}
 use Rattle.pgs_render.proofs.painting.placement_of.Statement.{statement}
 use Rattle.pgs_render.proofs.painting.placement_of.Tie as tie

@@ -3,7 +3,7 @@
 use Rattle.pgs_base.specs.Bytes.{num}
 use Prim.Native.Nat.{_/_}
 use Rattle.pgs_palette.proofs.Laying.{laid-other}
-use Rattle.pgs_render.specs.Palettes.{entriesIn}
+use Rattle.pgs_rendering.specs.Palettes.{entriesIn}
 use Prim.Native.Nat.{_-_}
 use mathlib.Core.Path.{refl, _∙_}
 use native.Mathlib.Omega.{arith}
@@ -12,7 +12,7 @@ use lib.ListN.{length}
 use Rattle.pgs_base.proofs.Bytes.{num-byte}
 use Rattle.pgs_pds.proofs.PdsLaws.{has-numbers}
 use Rattle.pgs_color.specs.Bytes.{rgbOf}
-use Rattle.pgs_render.proofs.PaletteLaws.{Laying, laying, lays-within, lays-call, laid-all}
+use Rattle.pgs_rendering.proofs.PaletteLaws.{Laying, laying, lays-within, lays-call, laid-all}
 use Rattle.pgs_render.proofs.palette.lay_palette.Statement.{statement}
 use Rattle.pgs_render.proofs.palette.lay_palette.Tie as tie
 

@@ -3,7 +3,7 @@
 use borrow.Author.Needs.{needs}
 use denote.Ref.{now}
 use mathlib.Core.Path.{refl}
-use Rattle.pgs_render.proofs.RenderLaws.{listed-narrow, joins, reads-content}
+use Rattle.pgs_rendering.proofs.RenderLaws.{listed-narrow, joins, reads-content}
 use Rattle.pgs_render.proofs.render.join_and_read.Statement.{statement}
 use Rattle.pgs_render.proofs.render.join_and_read.Tie as tie
 

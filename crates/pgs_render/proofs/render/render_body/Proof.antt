@@ -5,7 +5,7 @@ use denote.Ref.{now}
 use mathlib.Core.Path.{refl, ap}
 use Rattle.pgs_bitmap_check.specs.Outcomes.{outcome}
 use Rattle.pgs_pcs.specs.PcsBody.{pcsOutcome}
-use Rattle.pgs_render.proofs.OpeningLaws.{front-within, front-length, answers, always-parsed, parsed-count, parsed-placed, parsed-answer}
+use Rattle.pgs_rendering.proofs.OpeningLaws.{front-within, front-length, answers, always-parsed, parsed-count, parsed-placed, parsed-answer}
 use Rattle.pgs_render.proofs.render.render_body.Statement.{statement}
 use Rattle.pgs_render.proofs.render.render_body.Tie as tie
 

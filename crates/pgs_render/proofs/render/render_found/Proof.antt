@@ -5,8 +5,8 @@ use denote.Ref.{now}
 use mathlib.Core.Path.{sym, ap, _∙_}
 use native.Mathlib.Omega.{arith}
 use Rattle.pgs_segment.specs.Header.{headerOutcome}
-use Rattle.pgs_render.proofs.OpeningLaws.{head-there, found-within, found-opened, found-composed}
-use Rattle.pgs_render.proofs.PaletteLaws.{head-of}
+use Rattle.pgs_rendering.proofs.OpeningLaws.{head-there, found-within, found-opened, found-composed}
+use Rattle.pgs_rendering.proofs.PaletteLaws.{head-of}
 use Rattle.pgs_render.proofs.render.render_found.Statement.{statement}
 use Rattle.pgs_render.proofs.render.render_found.Tie as tie
 

@@ -4,7 +4,7 @@ use borrow.Author.Needs.{needs}
 use denote.Ref.{now}
 use mathlib.Core.Path.{ap}
 use Rattle.pgs_set.specs.Walks.{setOutcome}
-use Rattle.pgs_render.proofs.OpeningLaws.{always-found, found-time}
+use Rattle.pgs_rendering.proofs.OpeningLaws.{always-found, found-time}
 use Rattle.pgs_render.proofs.render.render_listed.Statement.{statement}
 use Rattle.pgs_render.proofs.render.render_listed.Tie as tie
 

@@ -8,7 +8,7 @@ use Rattle.pgs_plane.proofs.AreaLaws.{area-fits}
 use mathlib.Core.Path.{sym, ap, _∙_}
 use native.Mathlib.Omega.{arith}
 use Rattle.pgs_bitmap_check.specs.Outcomes.{outcome}
-use Rattle.pgs_render.proofs.RenderLaws.{listed-narrow, listed-total, scratch-short, scratch-room, plane-short, all-room, readied, renders-none, renders-joined, renders-all}
+use Rattle.pgs_rendering.proofs.RenderLaws.{listed-narrow, listed-total, scratch-short, scratch-room, plane-short, all-room, readied, renders-none, renders-joined, renders-all}
 use Rattle.pgs_render.proofs.render.render_set.Statement.{statement}
 use Rattle.pgs_render.proofs.render.render_set.Tie as tie
 

@@ -5,7 +5,7 @@ use denote.Ref.{now}
 use mathlib.Core.Path.{refl}
 use native.Mathlib.Omega.{arith}
 use lib.ListN.{replicate}
-use Rattle.pgs_render.proofs.RenderLaws.{listed-narrow, ready-storable, ready-room, ready-stored, ready-painted}
+use Rattle.pgs_rendering.proofs.RenderLaws.{listed-narrow, ready-storable, ready-room, ready-stored, ready-painted}
 use Rattle.pgs_render.proofs.render.show.Statement.{statement}
 use Rattle.pgs_render.proofs.render.show.Tie as tie
 

@@ -3,7 +3,7 @@
 use mathlib.Core.Path.{refl}
 use Prim.Native.Nat.{_+_, _*_, _-_}
 use native.Mathlib.Omega.{arith}
-use Rattle.pgs_render.proofs.StoreLaws.{stored-stream, stored-scratch}
+use Rattle.pgs_rendering.proofs.StoreLaws.{stored-stream, stored-scratch}
 use lib.ListN.{getD}
 use denote.Ref.{now}
 use borrow.Author.Needs.{needs}

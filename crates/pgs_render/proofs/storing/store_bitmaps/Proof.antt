@@ -5,7 +5,7 @@ use Prim.Native.Nat.{_-_}
 use native.Mathlib.Omega.{arith}
 use denote.Ref.{now}
 use lib.ListN.{length}
-use Rattle.pgs_render.proofs.StoreLaws.{Storing, storing, stores-within, stores-one, stores-on, stored-all}
+use Rattle.pgs_rendering.proofs.StoreLaws.{Storing, storing, stores-within, stores-one, stores-on, stored-all}
 use Rattle.pgs_render.proofs.storing.store_bitmaps.Statement.{statement}
 use Rattle.pgs_render.proofs.storing.store_bitmaps.Tie as tie
 

@@ -19,8 +19,8 @@ use Rattle.pgs_base.proofs.Lists.{drop-take}
 use Rattle.pgs_base.proofs.Outcomes.{first-accepts, second-holds}
 use Rattle.pgs_object.proofs.Lists.{drop-next}
 use Rattle.pgs_object.proofs.ViewLaws.{part-whole, shows-scratch}
-use Rattle.pgs_render.specs.Rows.{rowArea, rowsArea, rowsReading, rowsBitmaps, Held, Storable, AllStorable}
-use Rattle.pgs_render.proofs.PaintLaws.{lent-part}
+use Rattle.pgs_rendering.specs.Rows.{rowArea, rowsArea, rowsReading, rowsBitmaps, Held, Storable, AllStorable}
+use Rattle.pgs_rendering.proofs.PaintLaws.{lent-part}
 
 -- data in the stream is shown with any scratch
 shown-stream : (s x y r : List ℕ) → getD r 4 0 ≡ 0 → shownBy s x r ≡ shownBy s y r

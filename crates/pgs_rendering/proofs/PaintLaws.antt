@@ -18,8 +18,8 @@ use Rattle.pgs_pcs.specs.declared.pcs.Cropping.{Cropping}
 use Rattle.pgs_pcs.specs.declared.pcs.Cropping.the-variants.{Uncropped, Cropped}
 use Rattle.pgs_pcs.specs.declared.pcs.CompositionObject.{CompositionObject}
 use Rattle.pgs_object.proofs.Lists.{drop-next}
-use Rattle.pgs_render.specs.Rows.{rowArea, rowsArea, bitmapAt, imageAt, lookAt, croppingIn, placementIn}
-use Rattle.pgs_render.specs.declared.painting.Bitmap.{Bitmap}
+use Rattle.pgs_rendering.specs.Rows.{rowArea, rowsArea, bitmapAt, imageAt, lookAt, croppingIn, placementIn}
+use Rattle.pgs_rendering.specs.declared.Bitmap.{Bitmap}
 
 -- the crop of a placement's record
 module _ (r : List ℕ) where

@@ -21,7 +21,7 @@ use Rattle.pgs_stream.specs.Stream.{stepVerdict, readFirst, readOf}
 use Rattle.pgs_stream.proofs.ReadingLaws.{Each}
 use Rattle.pgs_set.specs.Sets.{isEnd, throughEnd}
 use Rattle.pgs_set.specs.Walks.{piecesAt}
-use Rattle.pgs_render.specs.Palettes.{isPds, entriesIn, entriesNamed, entriesAmong}
+use Rattle.pgs_rendering.specs.Palettes.{isPds, entriesIn, entriesNamed, entriesAmong}
 
 pub num-one : (at : ℕ) (l : List ℕ) → Bytes l → num 1 at l < 256
 unfolding num

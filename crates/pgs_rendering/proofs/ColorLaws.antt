@@ -13,7 +13,7 @@ use Rattle.pgs_palette.specs.Palette.{Entry, lookup, colorOf, entryOr, transpar
 use Rattle.pgs_palette.specs.Table.{laid, cleared, pixelOf}
 use Rattle.pgs_palette.proofs.Laying.{shown, laid-length, cleared-length}
 use Rattle.pgs_plane.specs.Placing.{tableColor}
-use Rattle.pgs_render.specs.Palettes.{colorShown}
+use Rattle.pgs_rendering.specs.Palettes.{colorShown}
 
 -- where no entry has an id past 255, as in a list of bytes
 pub table-shown : (es : List Entry) (t : List ℕ) → length t ≡ 1024 → ((i : ℕ) → 256 ≤ i → lookup es i ≡ none)

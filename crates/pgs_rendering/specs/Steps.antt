@@ -13,8 +13,8 @@ use Rattle.pgs_object.specs.Objects.{objectsOf, objectsVerdict}
 use Rattle.pgs_set.specs.Sets.{setNumber, throughEnd}
 use Rattle.pgs_object.specs.Reassembly.{joinedData, objectRows}
 use Rattle.pgs_set.specs.Walks.{InSet, piecesAt}
-use Rattle.pgs_render.specs.Images.{lookIn, areaOf}
-use Rattle.pgs_render.specs.Rendering.{compositionOf, placementsIn, colorsIn, pictureOf, contentVerdict, leftBy}
+use Rattle.pgs_rendering.specs.Images.{lookIn, areaOf}
+use Rattle.pgs_rendering.specs.Rendering.{compositionOf, placementsIn, colorsIn, pictureOf, contentVerdict, leftBy}
 
 -- a set that 1 to 23 and 36 do not refuse, with the records of its objects
 pub record Listed (k : ℕ) (s : List ℕ) (rows : List (List ℕ)) : Type 0 where

@@ -5,8 +5,7 @@ use mathlib.Core.List.{List, [], _++_}
 use mathlib.Core.Path.{_≡_}
 use Prim.Native.Nat.{ℕ, _+_, _*_}
 use lib.ListN.{length}
-use Rattle.pgs_base.specs.Outcome.{Verdict, Outcome, gives, refuses, andThen, needing, isAccepted, laid, outcomeOf, pick}
-use Rattle.pgs_base.specs.Refusals.{numberOf}
+use Rattle.pgs_base.specs.Outcome.{Verdict, Outcome, andThen, needing, isAccepted, laid, outcomeOf, pick}
 use Rattle.pgs_palette.specs.Palette.{Conversion}
 use Rattle.pgs_plane.specs.Pictures.{planeShown}
 use Rattle.pgs_plane.specs.Placing.{Image}
@@ -18,10 +17,8 @@ use Rattle.pgs_pcs.specs.declared.pcs.Pcs.{Pcs}
 use Rattle.pgs_object.specs.Objects.{Chain}
 use Rattle.pgs_object.specs.Reassembly.{joinedData}
 use Rattle.pgs_set.specs.Sets.{DisplaySet}
-use Rattle.pgs_render.specs.Images.{lookIn, bitmapsOf, areaOf, bitmapsVerdict, hasObject, placementsVerdict}
-use Rattle.pgs_render.specs.Palettes.{entriesAmong, colorShown}
-use Rattle.pgs_render.specs.declared.render.RenderAnswer.{RenderAnswer}
-use Rattle.pgs_render.specs.declared.render.RenderAnswer.the-variants.{Shown, Refused}
+use Rattle.pgs_rendering.specs.Images.{lookIn, bitmapsOf, areaOf, bitmapsVerdict, hasObject, placementsVerdict}
+use Rattle.pgs_rendering.specs.Palettes.{entriesAmong, colorShown}
 
 -- the numbers of a set's PCS, and its placements
 abbrev pub compositionOf : DisplaySet → Pcs
@@ -62,11 +59,6 @@ leftBy content cs = joinedData cs ++ pick (isAccepted content) (bitmapsOf cs) []
 -- width and height of the plane, and the PTS of the PCS: as the Rust's `RenderedDisplaySet`; 01 does not say
 abbrev pub answerOf : DisplaySet → ℕ × ℕ × ℕ
 answerOf d = (compositionOf d .width, compositionOf d .height, ptsOf (d .opening))
-
--- the papers' values and number of each answer
-abbrev pub renderOutcome : RenderAnswer → Outcome (ℕ × ℕ × ℕ)
-renderOutcome (Shown width height pts) = gives (width, height, pts)
-renderOutcome (Refused r) = refuses (numberOf r)
 
 -- what painting a set promises, by a conversion of colours, where finding its objects has this verdict
 pub record Rendered (convert : Conversion) (verdict : Verdict) (d : DisplaySet) (cs : List Chain) (scratch scratch′ plane plane′ : List ℕ)

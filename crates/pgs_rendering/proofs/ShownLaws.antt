@@ -18,8 +18,8 @@ use Rattle.pgs_pcs.specs.declared.pcs.Cropping.the-variants.{Uncropped, Cropped
 use Rattle.pgs_pcs.specs.declared.pcs.CompositionObject.{CompositionObject}
 use Rattle.pgs_object.specs.Objects.{Chain, objectId, widthOf, heightOf, dataOf}
 use Rattle.pgs_object.specs.Reassembly.{copiedData, rowsFrom}
-use Rattle.pgs_render.specs.Images.{imageIn, lookIn, bitmapsOf, bitmapsVerdict}
-use Rattle.pgs_render.specs.Rows.{bitmapAt, imageAt, lookAt, croppingIn, placementIn}
+use Rattle.pgs_rendering.specs.Images.{imageIn, lookIn, bitmapsOf, bitmapsVerdict}
+use Rattle.pgs_rendering.specs.Rows.{bitmapAt, imageAt, lookAt, croppingIn, placementIn}
 
 -- a crop is told by its cells
 cells-back : (a b c d e : ℕ) (k : Cropping) → croppingIn (a ∷ b ∷ c ∷ d ∷ e ∷ cropCells k) ≡ k

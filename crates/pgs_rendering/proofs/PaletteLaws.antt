@@ -34,7 +34,7 @@ use Rattle.pgs_set.specs.Walks.{InSet, piecesAt}
 use Rattle.pgs_set.proofs.SetLaws.{kind-read, size-read, inside-more, inside-here, inside-on}
 use Rattle.pgs_object.proofs.FragmentLaws.{lent-body}
 use Rattle.pgs_set.proofs.WalkLaws.{step-header, pieces-here, type-of-piece, within-here}
-use Rattle.pgs_render.specs.Palettes.{isPds, entriesIn, entriesNamed, entriesAmong}
+use Rattle.pgs_rendering.specs.Palettes.{isPds, entriesIn, entriesNamed, entriesAmong}
 
 -- a call that changed a table that is long enough
 pub changed : {change : List ℕ → List ℕ} {v : Verdict} {t t′ : List ℕ} → 1024 ≤ length t → Updates change v t t′ → t′ ≡ change t

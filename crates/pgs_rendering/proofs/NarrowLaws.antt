@@ -17,7 +17,7 @@ use Rattle.pgs_object.specs.Objects.{Fragment, Chain, widthIn, heightIn, widthO
 use Rattle.pgs_object.specs.Reassembly.{copiedData, rowsFrom, objectRows}
 use Rattle.pgs_object.proofs.ObjectLaws.{Begins, AllBegin}
 use Rattle.pgs_object.proofs.ViewLaws.{objects-begin}
-use Rattle.pgs_render.specs.Rows.{Narrow}
+use Rattle.pgs_rendering.specs.Rows.{Narrow}
 
 num-two : (at : ℕ) (l : List ℕ) → Bytes l → num 2 at l < 65536
 unfolding num

@@ -13,8 +13,8 @@ use Rattle.pgs_bitmap_check.specs.Bitmap.{bitmapOf}
 use Rattle.pgs_object.specs.Objects.{Fragment, Chain, ChainState, unseen, continuing, complete, idOf, opensChain, withId, chainsOf, widthOf, heightOf, dataOf, dataPlace, stateOf, firstVerdict, nextVerdict, fragmentVerdict, verdictAfter, chainsVerdict, fragmentsVerdict, fragmentsOf, objectLimit, objectsOf, objectsVerdict}
 use Rattle.pgs_set.specs.Sets.{setNumber, setsVerdict, setCount}
 use Rattle.pgs_object.specs.Reassembly.{copied, copiedData, joinedData, objectRow, rowsFrom, shownBy}
-use Rattle.pgs_render.specs.Images.{areaOf, bitmapsOf}
-use Rattle.pgs_render.specs.Rows.{rowsArea, rowsBitmaps, Held}
+use Rattle.pgs_rendering.specs.Images.{areaOf, bitmapsOf}
+use Rattle.pgs_rendering.specs.Rows.{rowsArea, rowsBitmaps, Held}
 
 pub area-of : (at : ℕ) (cs : List Chain) → rowsArea (rowsFrom at cs) ≡ areaOf cs
 area-of at [] = refl

@@ -32,12 +32,12 @@ use Rattle.pgs_object.proofs.FragmentLaws.{lent-body}
 use Rattle.pgs_set.proofs.NumberLaws.{stands-here, stands-open}
 use Rattle.pgs_set.proofs.SetLaws.{size-read, set-here, read-within}
 use Rattle.pgs_set.proofs.WalkLaws.{kind-accepted}
-use Rattle.pgs_render.specs.Rendering.{roomVerdict, answerOf, Rendered}
-use Rattle.pgs_render.specs.Steps.{Listed, Opened, Composed, Placed}
-use Rattle.pgs_render.proofs.EntryLaws.{num-one}
-use Rattle.pgs_render.proofs.ObjectLaws.{few-accepted}
-use Rattle.pgs_render.proofs.PaletteLaws.{no-head}
-use Rattle.pgs_render.proofs.RenderLaws.{renders-none}
+use Rattle.pgs_rendering.specs.Rendering.{roomVerdict, answerOf, Rendered}
+use Rattle.pgs_rendering.specs.Steps.{Listed, Opened, Composed, Placed}
+use Rattle.pgs_rendering.proofs.EntryLaws.{num-one}
+use Rattle.pgs_rendering.proofs.ObjectLaws.{few-accepted}
+use Rattle.pgs_rendering.proofs.PaletteLaws.{no-head}
+use Rattle.pgs_rendering.proofs.RenderLaws.{renders-none}
 
 -- a verdict does not accept and refuse
 not-both : {v : Verdict} {k : ℕ} → v ≡ accepted → v ≡ refused k → ⊥

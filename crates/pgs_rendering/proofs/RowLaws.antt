@@ -15,8 +15,8 @@ use Rattle.pgs_pcs.specs.declared.pcs.CompositionObject.{CompositionObject}
 use Rattle.pgs_object.specs.Objects.{Chain, objectId, widthOf, heightOf, dataOf}
 use Rattle.pgs_object.specs.Reassembly.{copied, copiedData, joinedData, objectRow, rowsFrom, shownBy}
 use Rattle.pgs_object.proofs.Lists.{drop-next}
-use Rattle.pgs_render.specs.Images.{areaOf, bitmapsVerdict, hasObject, placementsVerdict}
-use Rattle.pgs_render.specs.Rows.{rowArea, rowJoined, rowsJoined, rowsNeed, rowsReading, hasRow, allPresent}
+use Rattle.pgs_rendering.specs.Images.{areaOf, bitmapsVerdict, hasObject, placementsVerdict}
+use Rattle.pgs_rendering.specs.Rows.{rowArea, rowJoined, rowsJoined, rowsNeed, rowsReading, hasRow, allPresent}
 
 -- how much of the scratch the joined data of a row takes
 pub joined-none : (r : List ℕ) → getD r 4 0 ≡ 0 → 0 ≡ rowJoined r

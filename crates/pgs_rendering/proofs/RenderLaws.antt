@@ -32,17 +32,17 @@ use Rattle.pgs_set.specs.Sets.{setNumber, DisplaySet, throughEnd}
 use Rattle.pgs_object.specs.Reassembly.{joinedData, objectRows, shownBy, Reassembled}
 use Rattle.pgs_set.specs.Walks.{piecesAt}
 use Rattle.pgs_object.proofs.ViewLaws.{shown-data}
-use Rattle.pgs_render.specs.Images.{lookIn, bitmapsOf, areaOf, bitmapsVerdict}
-use Rattle.pgs_render.specs.Palettes.{entriesAmong, colorShown}
-use Rattle.pgs_render.specs.Rendering.{compositionOf, placementsIn, colorsIn, pictureOf, earlyVerdict, contentVerdict, leftBy, answerOf, Rendered}
-use Rattle.pgs_render.specs.Rows.{Narrow, rowsJoined, rowsNeed, rowsArea, rowsReading, rowsBitmaps, allPresent, lookAt, placementIn, AllStorable}
-use Rattle.pgs_render.specs.Steps.{Listed, Opened, Placed, JoinedAndRead, Ready, Showing}
-use Rattle.pgs_render.proofs.ColorLaws.{table-shown}
-use Rattle.pgs_render.proofs.EntryLaws.{few-ids}
-use Rattle.pgs_render.proofs.NarrowLaws.{objects-narrow}
-use Rattle.pgs_render.proofs.ObjectLaws.{area-of, bitmaps-of, rows-held, few-accepted}
-use Rattle.pgs_render.proofs.RowLaws.{need-of, total-of, reading-of, present-of}
-use Rattle.pgs_render.proofs.ShownLaws.{shown-rows, look-same}
+use Rattle.pgs_rendering.specs.Images.{lookIn, bitmapsOf, areaOf, bitmapsVerdict}
+use Rattle.pgs_rendering.specs.Palettes.{entriesAmong, colorShown}
+use Rattle.pgs_rendering.specs.Rendering.{compositionOf, placementsIn, colorsIn, pictureOf, earlyVerdict, contentVerdict, leftBy, answerOf, Rendered}
+use Rattle.pgs_rendering.specs.Rows.{Narrow, rowsJoined, rowsNeed, rowsArea, rowsReading, rowsBitmaps, allPresent, lookAt, placementIn, AllStorable}
+use Rattle.pgs_rendering.specs.Steps.{Listed, Opened, Placed, JoinedAndRead, Ready, Showing}
+use Rattle.pgs_rendering.proofs.ColorLaws.{table-shown}
+use Rattle.pgs_rendering.proofs.EntryLaws.{few-ids}
+use Rattle.pgs_rendering.proofs.NarrowLaws.{objects-narrow}
+use Rattle.pgs_rendering.proofs.ObjectLaws.{area-of, bitmaps-of, rows-held, few-accepted}
+use Rattle.pgs_rendering.proofs.RowLaws.{need-of, total-of, reading-of, present-of}
+use Rattle.pgs_rendering.proofs.ShownLaws.{shown-rows, look-same}
 
 -- bitmaps that are accepted take their area
 bitmaps-area : (cs : List Chain) → bitmapsVerdict cs ≡ accepted → length (bitmapsOf cs) ≡ areaOf cs

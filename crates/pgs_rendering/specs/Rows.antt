@@ -12,7 +12,7 @@ use Rattle.pgs_pcs.specs.declared.pcs.Cropping.{Cropping}
 use Rattle.pgs_pcs.specs.declared.pcs.Cropping.the-variants.{Uncropped, Cropped}
 use Rattle.pgs_pcs.specs.declared.pcs.CompositionObject.{CompositionObject}
 use Rattle.pgs_object.specs.Reassembly.{shownBy}
-use Rattle.pgs_render.specs.declared.painting.Bitmap.{Bitmap}
+use Rattle.pgs_rendering.specs.declared.Bitmap.{Bitmap}
 
 -- an object's width and height are numbers of two bytes
 abbrev pub Narrow : List (List ℕ) → Type 0
