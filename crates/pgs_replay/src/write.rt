@@ -1,12 +1,13 @@
 // The calls that write. Outputs are full of 9s before.
 use crate::print;
-use pgs_base::number::u16_of;
-use pgs_base::number::u32_of;
 use pgs_cells::pcs::PcsNumbers;
 use pgs_cells::pcs::pcs_from;
 use pgs_cells::pds::pds_from;
 use pgs_cells_ods::ods::OdsNumbers;
 use pgs_cells_ods::ods::ods_from;
+use pgs_fields::u8_at;
+use pgs_fields::u16_at;
+use pgs_fields::u32_at;
 use pgs_stream_writer::stream::WritesAnswer;
 use pgs_stream_writer::stream::write_segments;
 use pgs_writer::end::encode_end;
@@ -55,8 +56,8 @@ pub(crate) fn other(input: &[u8]) {
     if input.len() < 9 {
         return;
     }
-    let pts = u32_of(input[0], input[1], input[2], input[3]);
-    let dts = u32_of(input[4], input[5], input[6], input[7]);
+    let pts = u32_at(input, 0);
+    let dts = u32_at(input, 4);
     let mut out = [9u8; 32];
     print_write(encode_other(pts, dts, input[8], &input[9..], &mut out));
     print::bytes(&out);
@@ -65,17 +66,14 @@ pub(crate) fn other(input: &[u8]) {
 
 // The seven cells of a fragment, 4 bytes each.
 fn cells(input: &[u8]) -> [u32; 7] {
-    if input.len() < 36 {
-        return [0; 7];
-    }
     [
-        u32_of(input[8], input[9], input[10], input[11]),
-        u32_of(input[12], input[13], input[14], input[15]),
-        u32_of(input[16], input[17], input[18], input[19]),
-        u32_of(input[20], input[21], input[22], input[23]),
-        u32_of(input[24], input[25], input[26], input[27]),
-        u32_of(input[28], input[29], input[30], input[31]),
-        u32_of(input[32], input[33], input[34], input[35]),
+        u32_at(input, 8),
+        u32_at(input, 12),
+        u32_at(input, 16),
+        u32_at(input, 20),
+        u32_at(input, 24),
+        u32_at(input, 28),
+        u32_at(input, 32),
     ]
 }
 
@@ -91,8 +89,8 @@ pub(crate) fn ods(input: &[u8]) {
     if input.len() < 36 {
         return;
     }
-    let pts = u32_of(input[0], input[1], input[2], input[3]);
-    let dts = u32_of(input[4], input[5], input[6], input[7]);
+    let pts = u32_at(input, 0);
+    let dts = u32_at(input, 4);
     let numbers = cells(input);
     let mut out = [9u8; 40];
     print_write(write_ods(pts, dts, numbers, &input[36..], &mut out));
@@ -105,8 +103,8 @@ pub(crate) fn end(input: &[u8]) {
     if input.len() < 8 {
         return;
     }
-    let pts = u32_of(input[0], input[1], input[2], input[3]);
-    let dts = u32_of(input[4], input[5], input[6], input[7]);
+    let pts = u32_at(input, 0);
+    let dts = u32_at(input, 4);
     let mut out = [9u8; 16];
     print_write(encode_end(pts, dts, &mut out));
     print::bytes(&out);
@@ -115,56 +113,50 @@ pub(crate) fn end(input: &[u8]) {
 
 // The seven cells at the front of a PCS's, 2 bytes each.
 fn pcs_cells(l: &[u8]) -> [u16; 7] {
-    if l.len() < 14 {
-        return [0; 7];
-    }
     [
-        u16_of(l[0], l[1]),
-        u16_of(l[2], l[3]),
-        u16_of(l[4], l[5]),
-        u16_of(l[6], l[7]),
-        u16_of(l[8], l[9]),
-        u16_of(l[10], l[11]),
-        u16_of(l[12], l[13]),
+        u16_at(l, 0),
+        u16_at(l, 2),
+        u16_at(l, 4),
+        u16_at(l, 6),
+        u16_at(l, 8),
+        u16_at(l, 10),
+        u16_at(l, 12),
     ]
 }
 
 fn placement(l: &[u8]) -> [u16; 10] {
-    if l.len() < 20 {
-        return [0; 10];
-    }
     [
-        u16_of(l[0], l[1]),
-        u16_of(l[2], l[3]),
-        u16_of(l[4], l[5]),
-        u16_of(l[6], l[7]),
-        u16_of(l[8], l[9]),
-        u16_of(l[10], l[11]),
-        u16_of(l[12], l[13]),
-        u16_of(l[14], l[15]),
-        u16_of(l[16], l[17]),
-        u16_of(l[18], l[19]),
+        u16_at(l, 0),
+        u16_at(l, 2),
+        u16_at(l, 4),
+        u16_at(l, 6),
+        u16_at(l, 8),
+        u16_at(l, 10),
+        u16_at(l, 12),
+        u16_at(l, 14),
+        u16_at(l, 16),
+        u16_at(l, 18),
     ]
 }
 
 fn window(l: &[u8]) -> [u16; 5] {
-    if l.len() < 10 {
-        return [0; 5];
-    }
     [
-        u16_of(l[0], l[1]),
-        u16_of(l[2], l[3]),
-        u16_of(l[4], l[5]),
-        u16_of(l[6], l[7]),
-        u16_of(l[8], l[9]),
+        u16_at(l, 0),
+        u16_at(l, 2),
+        u16_at(l, 4),
+        u16_at(l, 6),
+        u16_at(l, 8),
     ]
 }
 
 fn entry(l: &[u8]) -> [u8; 5] {
-    if l.len() < 5 {
-        return [0; 5];
-    }
-    [l[0], l[1], l[2], l[3], l[4]]
+    [
+        u8_at(l, 0),
+        u8_at(l, 1),
+        u8_at(l, 2),
+        u8_at(l, 3),
+        u8_at(l, 4),
+    ]
 }
 
 fn write_pcs(
@@ -207,8 +199,8 @@ pub(crate) fn pcs(input: &[u8], a: u16) {
     if input.len() < 62 {
         return;
     }
-    let pts = u32_of(input[0], input[1], input[2], input[3]);
-    let dts = u32_of(input[4], input[5], input[6], input[7]);
+    let pts = u32_at(input, 0);
+    let dts = u32_at(input, 4);
     let cells = pcs_cells(&input[8..]);
     let list = [placement(&input[22..]), placement(&input[42..])];
     let mut out = [9u8; 60];
@@ -222,8 +214,8 @@ pub(crate) fn wds(input: &[u8], a: u16) {
     if input.len() < 28 {
         return;
     }
-    let pts = u32_of(input[0], input[1], input[2], input[3]);
-    let dts = u32_of(input[4], input[5], input[6], input[7]);
+    let pts = u32_at(input, 0);
+    let dts = u32_at(input, 4);
     let list = [window(&input[8..]), window(&input[18..])];
     let mut out = [9u8; 34];
     put_wds(pts, dts, &list, a as usize, &mut out);
@@ -236,8 +228,8 @@ pub(crate) fn pds(input: &[u8], a: u16) {
     if input.len() < 20 {
         return;
     }
-    let pts = u32_of(input[0], input[1], input[2], input[3]);
-    let dts = u32_of(input[4], input[5], input[6], input[7]);
+    let pts = u32_at(input, 0);
+    let dts = u32_at(input, 4);
     let list = [entry(&input[10..]), entry(&input[15..])];
     let mut out = [9u8; 28];
     put_pds(pts, dts, [input[8], input[9]], &list, a as usize, &mut out);
