@@ -8,7 +8,7 @@ use Rattle.pgs_calls.proofs.CallLaws.{code-refused, code-accepted, stays, turns
 use Rattle.pgs_c_render.specs.Render.{RenderCall, renderCallVerdict, shownCells}
 use Rattle.pgs_color.specs.Bytes.{rgbOf}
 use Rattle.pgs_rendering.specs.Rendering.{Rendered, answerOf}
-use Rattle.pgs_object.specs.Objects.{objectsOf, objectsVerdict}
+use Rattle.pgs_reassembly.specs.Objects.{objectsOf, objectsVerdict}
 use Rattle.pgs_set.specs.Sets.{setNumber}
 
 module _ (s : List ℕ) (k : ℕ) {scratch scratch′ plane plane′ : List ℕ} {o : Outcome (ℕ × ℕ × ℕ)}

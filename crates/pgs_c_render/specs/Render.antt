@@ -8,7 +8,7 @@ use Rattle.pgs_calls.specs.Calls.{codeOf, becomes}
 use Rattle.pgs_color.specs.Bytes.{rgbOf}
 use Rattle.pgs_rendering.specs.Images.{lookIn}
 use Rattle.pgs_rendering.specs.Rendering.{colorsIn, pictureOf, earlyVerdict, contentVerdict, renderVerdict, leftBy, answerOf}
-use Rattle.pgs_object.specs.Objects.{objectsOf, objectsVerdict}
+use Rattle.pgs_reassembly.specs.Objects.{objectsOf, objectsVerdict}
 use Rattle.pgs_set.specs.Sets.{setNumber}
 
 -- whether set number k is painted

@@ -7,8 +7,8 @@ use Rattle.pgs_base.specs.Outcome.{accepted, refused, Outcome, gives, refuses}
 use Rattle.pgs_base.proofs.Outcomes.{gave, gave-value, turned-down}
 use Rattle.pgs_calls.proofs.CallLaws.{code-refused, code-accepted, stays, turns}
 use Rattle.pgs_c_set.specs.Sets.{ObjectsCall, objectsCallVerdict}
-use Rattle.pgs_object.specs.Objects.{objectsOf, objectsVerdict}
-use Rattle.pgs_object.specs.Reassembly.{Reassembled}
+use Rattle.pgs_reassembly.specs.Objects.{objectsOf, objectsVerdict}
+use Rattle.pgs_reassembly.specs.Reassembly.{Reassembled}
 
 module _ {s : List ℕ} {k : ℕ} {scratch scratch′ : List ℕ} {list list′ : List (List ℕ)} {o : Outcome ℕ} (d : Reassembled (objectsVerdict k s) (objectsOf k s) list list′ scratch scratch′ o) where
   pub objects-refused : {n r : ℕ} (count : ℕ) → o ≡ refuses n → r ≡ n → ObjectsCall s k scratch scratch′ list list′ count count r

@@ -6,8 +6,8 @@ use mathlib.Core.List.{List}
 use lib.ListN.{length}
 use Rattle.pgs_base.specs.Outcome.{Verdict, laid}
 use Rattle.pgs_calls.specs.Calls.{codeOf, becomes, ListCall}
-use Rattle.pgs_object.specs.Objects.{objectsOf, objectsVerdict}
-use Rattle.pgs_object.specs.Reassembly.{joinedData, objectRows, reassembly}
+use Rattle.pgs_reassembly.specs.Objects.{objectsOf, objectsVerdict}
+use Rattle.pgs_reassembly.specs.Reassembly.{joinedData, objectRows, reassembly}
 use Rattle.pgs_set.specs.Sets.{setCount, setRows, setsVerdict}
 
 -- the sets of a stream: their records, and how many

@@ -17,7 +17,7 @@ use Rattle.pgs_segment.specs.OneSegment.{segmentType, segmentVerdict, bodyAt, u
 use Rattle.pgs_stream.specs.Stream.{readOf, stepVerdict, streamVerdict}
 use Rattle.pgs_stream.proofs.ReadingLaws.{own-fields}
 use Rattle.pgs_set.proofs.Choices.{pick-first, pick-second}
-use Rattle.pgs_object.proofs.JoinLaws.{part-back}
+use Rattle.pgs_reassembly.proofs.JoinLaws.{part-back}
 use Rattle.pgs_set.proofs.WalkLaws.{step-here, pieces-here, pieces-end, within-here, good-after, type-of-piece, piece-length}
 use Rattle.pgs_set.specs.Sets.{isEnd, setsOf, setsVerdict}
 use Rattle.pgs_set.specs.Walks.{piecesAt}

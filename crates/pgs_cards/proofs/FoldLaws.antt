@@ -13,7 +13,7 @@ use Rattle.pgs_segment.specs.Header.{ptsOf}
 use Rattle.pgs_ods.specs.OdsBody.{odsOf}
 use Rattle.pgs_segment.specs.OneSegment.{segmentType, bodyAt}
 use Rattle.pgs_pcs.specs.PcsBody.{pcsOf}
-use Rattle.pgs_object.specs.Objects.{Fragment, Chain, isOds, fragmentAt, fragmentsFrom, opensChain, chainsOf}
+use Rattle.pgs_reassembly.specs.Objects.{Fragment, Chain, isOds, fragmentAt, fragmentsFrom, opensChain, chainsOf}
 use Rattle.pgs_set.specs.Sets.{DisplaySet, groupVerdict, kindVerdict, stateAfter, isPcs, isEnd, throughEnd, setsFrom}
 use Rattle.pgs_views.specs.declared.«segment_type».SegmentType.{SegmentType}
 use Rattle.pgs_views.specs.declared.«segment_type».SegmentType.the-variants.{Pds, Ods, Pcs, Wds, End, Other}

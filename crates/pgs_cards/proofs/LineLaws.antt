@@ -6,7 +6,7 @@ use native.Mathlib.Omega.{arith}
 use lib.ListN.{length, take, drop, set, length-append, length-take, length-drop, length-map, drop-of-length-le}
 use lib.Seq.{drop-drop}
 use Rattle.pgs_base.proofs.Front.{Front, begins, stored, filled}
-use Rattle.pgs_object.proofs.JoinLaws.{part-back}
+use Rattle.pgs_reassembly.proofs.JoinLaws.{part-back}
 use Rattle.pgs_set.specs.Sets.{setsOf, setCount}
 use Rattle.pgs_cards.proofs.HexLaws.{hex-length}
 use Rattle.pgs_cards.specs.Cards.{cardLines, cardOf, hex, lineOf, lineLength, linesOf}

@@ -9,7 +9,7 @@ use lib.ListN.{length}
 use lib.Dec.{leb, ltb}
 use Rattle.pgs_base.specs.Outcome.{Verdict, accepted, refused, Outcome, gives, refuses, outcomeOf, andThen, unless, Delivered, pick}
 use Rattle.pgs_base.proofs.Outcomes.{gave, gave-value, turned-down, first-accepts}
-use Rattle.pgs_object.specs.Objects.{allObjectsVerdict}
+use Rattle.pgs_reassembly.specs.Objects.{allObjectsVerdict}
 use Rattle.pgs_set.specs.Sets.{setCount, setsVerdict}
 use Rattle.pgs_cards.proofs.LineLaws.{card-lines-length}
 use Rattle.pgs_cards.proofs.RoomLaws.{sets-room}

@@ -10,7 +10,7 @@ use Rattle.pgs_base.specs.Refusals.{numberOf}
 use Rattle.pgs_segment.specs.Header.{ptsOf}
 use Rattle.pgs_segment.specs.OneSegment.{bodyAt}
 use Rattle.pgs_pcs.specs.PcsBody.{pcsOf}
-use Rattle.pgs_object.specs.Objects.{chainsOf, fragmentsOf, allObjectsVerdict}
+use Rattle.pgs_reassembly.specs.Objects.{chainsOf, fragmentsOf, allObjectsVerdict}
 use Rattle.pgs_set.specs.Sets.{DisplaySet, setsOf}
 use Rattle.pgs_pcs.specs.declared.pcs.Pcs.{Pcs}
 use Rattle.pgs_cards.specs.declared.card.Card.{Card}

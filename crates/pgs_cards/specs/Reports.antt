@@ -6,7 +6,7 @@ use mathlib.Core.List.{List, [], _∷_, _++_}
 use lib.ListN.{length}
 use lib.Dec.{leb, ltb}
 use Rattle.pgs_base.specs.Outcome.{Verdict, accepted, refused, pick}
-use Rattle.pgs_object.specs.Objects.{allObjectsVerdict}
+use Rattle.pgs_reassembly.specs.Objects.{allObjectsVerdict}
 use Rattle.pgs_cards.specs.Cards.{cardLines}
 
 abbrev pub inputLimit : ℕ

@@ -10,7 +10,7 @@ use lib.ListN.{length, getD, length-map}
 use Rattle.pgs_base.specs.Outcome.{andThen, unless, pick}
 use Rattle.pgs_base.proofs.Outcomes.{first-accepts, second-holds}
 use Rattle.pgs_segment.specs.OneSegment.{segmentType}
-use Rattle.pgs_object.specs.Objects.{Fragment, Chain, isOds, fragmentAt, fragmentsFrom, fragmentsOf, idOf, opensChain, closesChain, withId, chainsOf, objectId, anyLast, ended, joined, dataOf, declaredLength, stateOf, complete, continuing, firstVerdict, nextVerdict, fragmentVerdict, verdictAfter, chainVerdict, chainsVerdict, fragmentsVerdict, objectLimit, objectsOf, objectsVerdict}
+use Rattle.pgs_reassembly.specs.Objects.{Fragment, Chain, isOds, fragmentAt, fragmentsFrom, fragmentsOf, idOf, opensChain, closesChain, withId, chainsOf, objectId, anyLast, ended, joined, dataOf, declaredLength, stateOf, complete, continuing, firstVerdict, nextVerdict, fragmentVerdict, verdictAfter, chainVerdict, chainsVerdict, fragmentsVerdict, objectLimit, objectsOf, objectsVerdict}
 use Rattle.pgs_set.specs.Sets.{noSet, setNumber, DisplaySet, setsVerdict}
 use Rattle.pgs_excerpt.specs.Excerpt.{excerpt, atStart, movedFragment, moved, SameObjects}
 use Rattle.pgs_excerpt.proofs.Alone.{alone}

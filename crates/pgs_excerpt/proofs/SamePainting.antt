@@ -9,9 +9,9 @@ use Rattle.pgs_base.specs.Outcome.{Verdict, Outcome, andThen, needing, isAccept
 use Rattle.pgs_bitmap_check.specs.Bitmap.{readingOf, bitmapOf}
 use Rattle.pgs_palette.specs.Palette.{Conversion}
 use Rattle.pgs_plane.specs.Placing.{imageOf}
-use Rattle.pgs_object.specs.Objects.{Fragment, Chain, objectId, widthOf, heightOf, objectsOf, objectsVerdict}
+use Rattle.pgs_reassembly.specs.Objects.{Fragment, Chain, objectId, widthOf, heightOf, objectsOf, objectsVerdict}
 use Rattle.pgs_set.specs.Sets.{setNumber, noSet, DisplaySet}
-use Rattle.pgs_object.specs.Reassembly.{anyMore, joinedData}
+use Rattle.pgs_reassembly.specs.Reassembly.{anyMore, joinedData}
 use Rattle.pgs_rendering.specs.Images.{lookIn, bitmapsOf, areaOf, bitmapsVerdict, hasObject, placementsVerdict}
 use Rattle.pgs_rendering.specs.Rendering.{compositionOf, colorsIn, pictureOf, placementsIn, renderVerdict, earlyVerdict, contentVerdict, leftBy, answerOf, Rendered}
 use Rattle.pgs_excerpt.specs.Excerpt.{excerpt, atStart, movedFragment, moved, SamePainting}

@@ -7,7 +7,7 @@ use lib.ListN.{length, take, drop}
 use Rattle.pgs_base.specs.Outcome.{Outcome, accepted}
 use Rattle.pgs_palette.specs.Palette.{Conversion}
 use Rattle.pgs_rendering.specs.Rendering.{Rendered}
-use Rattle.pgs_object.specs.Objects.{Fragment, Chain, objectsOf, objectsVerdict}
+use Rattle.pgs_reassembly.specs.Objects.{Fragment, Chain, objectsOf, objectsVerdict}
 use Rattle.pgs_set.specs.Sets.{setNumber, setVerdict, DisplaySet, bytesIn, setsOf, setsVerdict}
 
 -- how many bytes a set takes

@@ -1,3 +1,1 @@
-pub mod Objects
-pub mod Reassembly
-pub mod Tables
+pub mod Answers

@@ -3,6 +3,7 @@ use pgs_base::refusal::Refusal;
 use pgs_ods::ods::Dimensions;
 use pgs_ods::ods::Ods;
 use pgs_ods::ods::OdsAnswer;
+use pgs_reassembly::FragmentHead;
 use pgs_segment::header::header_at;
 use pgs_set::set::is_end;
 use pgs_views::fragment_flag::FragmentFlag;
@@ -14,35 +15,17 @@ ghost use lib.ListN.{length, take, drop};
 ghost use Rattle.pgs_base.specs.Outcome.{accepted, pick};
 ghost use Rattle.pgs_segment.specs.OneSegment.{segmentType, usedBy};
 ghost use Rattle.pgs_stream.specs.Stream.{stepVerdict};
-ghost use Rattle.pgs_object.specs.Objects.{isOds, widthIn, heightIn, fragmentAt};
-ghost use Rattle.pgs_object.specs.Tables.{
+ghost use Rattle.pgs_reassembly.specs.Objects.{isOds, widthIn, heightIn, fragmentAt};
+ghost use Rattle.pgs_reassembly.specs.Tables.{
   headOf,
   rowWith,
   total,
   Took,
   FoundChains,
-  chainsOutcome,
+  fragmentsLeft,
 };
+ghost use Rattle.pgs_object.specs.Answers.{chainsOutcome};
 ghost use Rattle.pgs_set.specs.Walks.{InSet};
-ghost use Rattle.pgs_object.specs.Tables.{fragmentsLeft};
-
-// The numbers of a fragment.
-pub(crate) struct FragmentHead {
-    pub id: usize,
-    pub version: usize,
-    // 0 where the fragment has no dimensions
-    pub width: usize,
-    pub height: usize,
-    pub declared: usize,
-    pub first: bool,
-    pub last: bool,
-    // the place of its segment in the stream
-    pub place: usize,
-    // the place of its data in the stream
-    pub start: usize,
-    // the length of its data
-    pub len: usize,
-}
 
 // A chain is a row of ten numbers in a table: 0 id, 1 version, 2 width, 3 height, 4 declared length, 5 whether it is closed, 6 whether it
 // is copied, 7 the place of its first segment, 8 the place of that segment's data, 9 the joined length.

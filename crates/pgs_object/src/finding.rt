@@ -12,7 +12,7 @@ use pgs_set::set::find_set;
 ghost use mathlib.Core.Path.{_≡_};
 ghost use lib.ListN.{length};
 ghost use Rattle.pgs_base.specs.Outcome.{accepted, outcomeOf};
-ghost use Rattle.pgs_object.specs.Objects.{
+ghost use Rattle.pgs_reassembly.specs.Objects.{
   chainsOf,
   eachVerdict,
   fragmentsVerdict,
@@ -20,9 +20,10 @@ ghost use Rattle.pgs_object.specs.Objects.{
   objectsVerdictWithin,
 };
 ghost use Rattle.pgs_set.specs.Sets.{setCount, setsOf, setsOutcome, setsVerdict};
-ghost use Rattle.pgs_object.specs.Tables.{Gathered, foundOutcome};
+ghost use Rattle.pgs_reassembly.specs.Tables.{Gathered};
+ghost use Rattle.pgs_object.specs.Answers.{foundOutcome};
 ghost use Rattle.pgs_set.specs.Walks.{InSet};
-ghost use Rattle.pgs_object.specs.Tables.{fragmentsLeft};
+ghost use Rattle.pgs_reassembly.specs.Tables.{fragmentsLeft};
 
 // How many objects a set has, and how many bytes of a scratch they take, or why it is refused.
 pub(crate) enum FoundAnswer {

@@ -4,16 +4,16 @@ ghost use mathlib.Core.Path.{_≡_};
 ghost use Prim.Native.Nat.{_+_, _≤_, _<_, _^_};
 ghost use lib.ListN.{length};
 ghost use Rattle.pgs_base.specs.Outcome.{accepted, outcomeOf, laid};
-ghost use Rattle.pgs_object.specs.Tables.{
+ghost use Rattle.pgs_reassembly.specs.Tables.{
   total,
   rowsVerdict,
   copiedIn,
   joinedIn,
-  joinedOutcome,
   placeIn,
   recordRow,
   recordsFrom,
 };
+ghost use Rattle.pgs_object.specs.Answers.{joinedOutcome};
 
 // How many bytes the chains that are copied take, or why one is refused.
 pub(crate) enum JoinedAnswer {

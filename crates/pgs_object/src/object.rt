@@ -10,9 +10,10 @@ use pgs_set::set::group_display_sets;
 ghost use mathlib.Core.Path.{_≡_};
 ghost use lib.ListN.{length};
 ghost use Rattle.pgs_base.specs.Outcome.{outcomeOf, Delivered};
-ghost use Rattle.pgs_object.specs.Objects.{allObjectsVerdict, objectsOf, objectsVerdict, objectsVerdictWithin};
+ghost use Rattle.pgs_reassembly.specs.Objects.{allObjectsVerdict, objectsOf, objectsVerdict, objectsVerdictWithin};
 ghost use Rattle.pgs_set.specs.Sets.{setCount, setsOutcome};
-ghost use Rattle.pgs_object.specs.Reassembly.{objectRows, objectsOutcome, Reassembled};
+ghost use Rattle.pgs_reassembly.specs.Reassembly.{objectRows, Reassembled};
+ghost use Rattle.pgs_object.specs.Answers.{objectsOutcome};
 
 // The most objects that a set may have.
 pub const OBJECT_LIMIT: usize = 64;

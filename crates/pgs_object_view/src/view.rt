@@ -1,6 +1,6 @@
 // The view of an object's data (01, module 7).
 ghost use mathlib.Core.Path.{_≡_};
-ghost use Rattle.pgs_object.specs.Reassembly.{partOf, shownBy};
+ghost use Rattle.pgs_reassembly.specs.Reassembly.{partOf, shownBy};
 
 // The part of `s` from `at`, of `n` bytes; empty where it would pass the end.
 fn part<'a>(s: &'a [u8], at: u64, n: u64) -> &'a [u8]

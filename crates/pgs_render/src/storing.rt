@@ -7,7 +7,7 @@ ghost use mathlib.Core.List.{_++_};
 ghost use Prim.Native.Nat.{_+_};
 ghost use lib.ListN.{take, drop};
 ghost use Rattle.pgs_bitmap_check.specs.Bitmap.{bitmapOf};
-ghost use Rattle.pgs_object.specs.Reassembly.{shownBy};
+ghost use Rattle.pgs_reassembly.specs.Reassembly.{shownBy};
 ghost use Rattle.pgs_rendering.specs.Rows.{Storable, AllStorable, rowArea, rowsArea, rowsBitmaps};
 
 // Stores the bitmap of one object from `at` on; it was read through before.

@@ -13,10 +13,10 @@ use Rattle.pgs_segment.specs.Header.{sizeOf}
 use Rattle.pgs_ods.specs.OdsBody.{flagOf}
 use Rattle.pgs_segment.specs.OneSegment.{bodyAt}
 use Rattle.pgs_ods.specs.declared.ods.Dimensions.the-variants.{Absent, Present}
-use Rattle.pgs_object.specs.Objects.{Fragment, Chain, widthIn, heightIn, widthOf, heightOf, objectsOf}
-use Rattle.pgs_object.specs.Reassembly.{copiedData, rowsFrom, objectRows}
-use Rattle.pgs_object.proofs.ObjectLaws.{Begins, AllBegin}
-use Rattle.pgs_object.proofs.ViewLaws.{objects-begin}
+use Rattle.pgs_reassembly.specs.Objects.{Fragment, Chain, widthIn, heightIn, widthOf, heightOf, objectsOf}
+use Rattle.pgs_reassembly.specs.Reassembly.{copiedData, rowsFrom, objectRows}
+use Rattle.pgs_reassembly.proofs.ObjectLaws.{Begins, AllBegin}
+use Rattle.pgs_reassembly.proofs.ViewLaws.{objects-begin}
 use Rattle.pgs_rendering.specs.Rows.{Narrow}
 
 num-two : (at : ℕ) (l : List ℕ) → Bytes l → num 2 at l < 65536

@@ -10,9 +10,9 @@ use lib.ListN.{length, getD, length-append}
 use Rattle.pgs_base.specs.Outcome.{accepted, unless, pick}
 use Rattle.pgs_base.proofs.Outcomes.{first-accepts, second-holds, holds}
 use Rattle.pgs_bitmap_check.specs.Bitmap.{bitmapOf}
-use Rattle.pgs_object.specs.Objects.{Fragment, Chain, ChainState, unseen, continuing, complete, idOf, opensChain, withId, chainsOf, widthOf, heightOf, dataOf, dataPlace, stateOf, firstVerdict, nextVerdict, fragmentVerdict, verdictAfter, chainsVerdict, fragmentsVerdict, fragmentsOf, objectLimit, objectsOf, objectsVerdict}
+use Rattle.pgs_reassembly.specs.Objects.{Fragment, Chain, ChainState, unseen, continuing, complete, idOf, opensChain, withId, chainsOf, widthOf, heightOf, dataOf, dataPlace, stateOf, firstVerdict, nextVerdict, fragmentVerdict, verdictAfter, chainsVerdict, fragmentsVerdict, fragmentsOf, objectLimit, objectsOf, objectsVerdict}
 use Rattle.pgs_set.specs.Sets.{setNumber, setsVerdict, setCount}
-use Rattle.pgs_object.specs.Reassembly.{copied, copiedData, joinedData, objectRow, rowsFrom, shownBy}
+use Rattle.pgs_reassembly.specs.Reassembly.{copied, copiedData, joinedData, objectRow, rowsFrom, shownBy}
 use Rattle.pgs_rendering.specs.Images.{areaOf, bitmapsOf}
 use Rattle.pgs_rendering.specs.Rows.{rowsArea, rowsBitmaps, Held}
 

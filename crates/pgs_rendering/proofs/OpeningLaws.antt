@@ -23,12 +23,12 @@ use Rattle.pgs_pcs.specs.declared.pcs.Pcs as composition
 use Rattle.pgs_stream.proofs.ReadingLaws.{own-body}
 use Rattle.pgs_records.proofs.RecordLaws.{records-length}
 use Rattle.pgs_segment.proofs.SegmentLaws.{accepted-body}
-use Rattle.pgs_object.specs.Objects.{Chain, objectsOf, objectsVerdict, objectLimit, fragmentsOf, fragmentsVerdict}
+use Rattle.pgs_reassembly.specs.Objects.{Chain, objectsOf, objectsVerdict, objectLimit, fragmentsOf, fragmentsVerdict}
 use Rattle.pgs_set.specs.Sets.{setNumber, setVerdict, DisplaySet, kindVerdict, throughEnd, setsVerdict, setCount, setRow}
-use Rattle.pgs_object.specs.Reassembly.{copiedData, rowsFrom, objectRows}
+use Rattle.pgs_reassembly.specs.Reassembly.{copiedData, rowsFrom, objectRows}
 use Rattle.pgs_set.specs.Walks.{SetStands, FoundSet, piecesAt}
 use Rattle.pgs_set.specs.declared.grouping.Grouping.the-variants.{Outside}
-use Rattle.pgs_object.proofs.FragmentLaws.{lent-body}
+use Rattle.pgs_reassembly.proofs.FragmentLaws.{lent-body}
 use Rattle.pgs_set.proofs.NumberLaws.{stands-here, stands-open}
 use Rattle.pgs_set.proofs.SetLaws.{size-read, set-here, read-within}
 use Rattle.pgs_set.proofs.WalkLaws.{kind-accepted}

@@ -17,7 +17,7 @@ use Rattle.pgs_plane.proofs.CallLaws.{all-fit}
 use Rattle.pgs_pcs.specs.declared.pcs.Cropping.{Cropping}
 use Rattle.pgs_pcs.specs.declared.pcs.Cropping.the-variants.{Uncropped, Cropped}
 use Rattle.pgs_pcs.specs.declared.pcs.CompositionObject.{CompositionObject}
-use Rattle.pgs_object.proofs.Lists.{drop-next}
+use Rattle.pgs_reassembly.proofs.Lists.{drop-next}
 use Rattle.pgs_rendering.specs.Rows.{rowArea, rowsArea, bitmapAt, imageAt, lookAt, croppingIn, placementIn}
 use Rattle.pgs_rendering.specs.declared.Bitmap.{Bitmap}
 

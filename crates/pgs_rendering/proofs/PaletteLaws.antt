@@ -32,7 +32,7 @@ use Rattle.pgs_palette.proofs.Laying.{laid-none, laid-length, laid-append, laid
 use Rattle.pgs_set.specs.Sets.{isEnd, throughEnd}
 use Rattle.pgs_set.specs.Walks.{InSet, piecesAt}
 use Rattle.pgs_set.proofs.SetLaws.{kind-read, size-read, inside-more, inside-here, inside-on}
-use Rattle.pgs_object.proofs.FragmentLaws.{lent-body}
+use Rattle.pgs_reassembly.proofs.FragmentLaws.{lent-body}
 use Rattle.pgs_set.proofs.WalkLaws.{step-header, pieces-here, type-of-piece, within-here}
 use Rattle.pgs_rendering.specs.Palettes.{isPds, entriesIn, entriesNamed, entriesAmong}
 

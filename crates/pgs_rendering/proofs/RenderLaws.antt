@@ -27,11 +27,11 @@ use Rattle.pgs_plane.proofs.StripLaws.{strip-length}
 use Rattle.pgs_pcs.specs.PcsBody.{placementRow}
 use Rattle.pgs_pcs.specs.declared.pcs.CompositionObject.{CompositionObject}
 use Rattle.pgs_pcs.specs.declared.pcs.Pcs.{Pcs}
-use Rattle.pgs_object.specs.Objects.{Chain, dataOf, widthOf, heightOf, objectsOf, objectsVerdict}
+use Rattle.pgs_reassembly.specs.Objects.{Chain, dataOf, widthOf, heightOf, objectsOf, objectsVerdict}
 use Rattle.pgs_set.specs.Sets.{setNumber, DisplaySet, throughEnd}
-use Rattle.pgs_object.specs.Reassembly.{joinedData, objectRows, shownBy, Reassembled}
+use Rattle.pgs_reassembly.specs.Reassembly.{joinedData, objectRows, shownBy, Reassembled}
 use Rattle.pgs_set.specs.Walks.{piecesAt}
-use Rattle.pgs_object.proofs.ViewLaws.{shown-data}
+use Rattle.pgs_reassembly.proofs.ViewLaws.{shown-data}
 use Rattle.pgs_rendering.specs.Images.{lookIn, bitmapsOf, areaOf, bitmapsVerdict}
 use Rattle.pgs_rendering.specs.Palettes.{entriesAmong, colorShown}
 use Rattle.pgs_rendering.specs.Rendering.{compositionOf, placementsIn, colorsIn, pictureOf, earlyVerdict, contentVerdict, leftBy, answerOf, Rendered}

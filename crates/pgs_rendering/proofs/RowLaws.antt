@@ -12,9 +12,9 @@ use Rattle.pgs_base.proofs.Decisions.{leb-same}
 use Rattle.pgs_bitmap_check.specs.Bitmap.{readingOf}
 use Rattle.pgs_pcs.specs.PcsBody.{placementRow}
 use Rattle.pgs_pcs.specs.declared.pcs.CompositionObject.{CompositionObject}
-use Rattle.pgs_object.specs.Objects.{Chain, objectId, widthOf, heightOf, dataOf}
-use Rattle.pgs_object.specs.Reassembly.{copied, copiedData, joinedData, objectRow, rowsFrom, shownBy}
-use Rattle.pgs_object.proofs.Lists.{drop-next}
+use Rattle.pgs_reassembly.specs.Objects.{Chain, objectId, widthOf, heightOf, dataOf}
+use Rattle.pgs_reassembly.specs.Reassembly.{copied, copiedData, joinedData, objectRow, rowsFrom, shownBy}
+use Rattle.pgs_reassembly.proofs.Lists.{drop-next}
 use Rattle.pgs_rendering.specs.Images.{areaOf, bitmapsVerdict, hasObject, placementsVerdict}
 use Rattle.pgs_rendering.specs.Rows.{rowArea, rowJoined, rowsJoined, rowsNeed, rowsReading, hasRow, allPresent}
 

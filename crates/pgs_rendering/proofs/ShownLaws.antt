@@ -16,8 +16,8 @@ use Rattle.pgs_pcs.specs.PcsBody.{cropCells, placementRow}
 use Rattle.pgs_pcs.specs.declared.pcs.Cropping.{Cropping}
 use Rattle.pgs_pcs.specs.declared.pcs.Cropping.the-variants.{Uncropped, Cropped}
 use Rattle.pgs_pcs.specs.declared.pcs.CompositionObject.{CompositionObject}
-use Rattle.pgs_object.specs.Objects.{Chain, objectId, widthOf, heightOf, dataOf}
-use Rattle.pgs_object.specs.Reassembly.{copiedData, rowsFrom}
+use Rattle.pgs_reassembly.specs.Objects.{Chain, objectId, widthOf, heightOf, dataOf}
+use Rattle.pgs_reassembly.specs.Reassembly.{copiedData, rowsFrom}
 use Rattle.pgs_rendering.specs.Images.{imageIn, lookIn, bitmapsOf, bitmapsVerdict}
 use Rattle.pgs_rendering.specs.Rows.{bitmapAt, imageAt, lookAt, croppingIn, placementIn}
 

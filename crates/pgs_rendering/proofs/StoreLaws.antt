@@ -14,11 +14,11 @@ use Rattle.pgs_bitmap_store.specs.Padding.{paddedTo}
 use Rattle.pgs_bitmap.proofs.BitmapArea.{bitmap-area}
 use Rattle.pgs_bitmap.proofs.DecodeAnswers.{padded-whole}
 use Rattle.pgs_bitmap_within.specs.Within.{partAt, putAt, roomFor, shownFrom, storedWithin}
-use Rattle.pgs_object.specs.Reassembly.{partOf, shownBy}
+use Rattle.pgs_reassembly.specs.Reassembly.{partOf, shownBy}
 use Rattle.pgs_base.proofs.Lists.{drop-take}
 use Rattle.pgs_base.proofs.Outcomes.{first-accepts, second-holds}
-use Rattle.pgs_object.proofs.Lists.{drop-next}
-use Rattle.pgs_object.proofs.ViewLaws.{part-whole, shows-scratch}
+use Rattle.pgs_reassembly.proofs.Lists.{drop-next}
+use Rattle.pgs_reassembly.proofs.ViewLaws.{part-whole, shows-scratch}
 use Rattle.pgs_rendering.specs.Rows.{rowArea, rowsArea, rowsReading, rowsBitmaps, Held, Storable, AllStorable}
 use Rattle.pgs_rendering.proofs.PaintLaws.{lent-part}
 

@@ -7,7 +7,7 @@ use Rattle.pgs_base.specs.Outcome.{Verdict, accepted, andThen, unless, pick}
 use Rattle.pgs_bitmap_check.specs.Bitmap.{readingOf, bitmapOf}
 use Rattle.pgs_plane.specs.Placing.{Image, imageOf}
 use Rattle.pgs_pcs.specs.declared.pcs.CompositionObject.{CompositionObject}
-use Rattle.pgs_object.specs.Objects.{Chain, objectId, widthOf, heightOf, dataOf}
+use Rattle.pgs_reassembly.specs.Objects.{Chain, objectId, widthOf, heightOf, dataOf}
 
 -- the bitmap of an object
 abbrev pub imageIn : Chain → Image

@@ -14,8 +14,8 @@ use Rattle.pgs_segment.specs.OneSegment.{bodyAt}
 use Rattle.pgs_pcs.specs.PcsBody.{pcsOf, placementsOf}
 use Rattle.pgs_pcs.specs.declared.pcs.CompositionObject.{CompositionObject}
 use Rattle.pgs_pcs.specs.declared.pcs.Pcs.{Pcs}
-use Rattle.pgs_object.specs.Objects.{Chain}
-use Rattle.pgs_object.specs.Reassembly.{joinedData}
+use Rattle.pgs_reassembly.specs.Objects.{Chain}
+use Rattle.pgs_reassembly.specs.Reassembly.{joinedData}
 use Rattle.pgs_set.specs.Sets.{DisplaySet}
 use Rattle.pgs_rendering.specs.Images.{lookIn, bitmapsOf, areaOf, bitmapsVerdict, hasObject, placementsVerdict}
 use Rattle.pgs_rendering.specs.Palettes.{entriesAmong, colorShown}

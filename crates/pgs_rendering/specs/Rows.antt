@@ -11,7 +11,7 @@ use Rattle.pgs_plane.specs.Placing.{Image, imageOf}
 use Rattle.pgs_pcs.specs.declared.pcs.Cropping.{Cropping}
 use Rattle.pgs_pcs.specs.declared.pcs.Cropping.the-variants.{Uncropped, Cropped}
 use Rattle.pgs_pcs.specs.declared.pcs.CompositionObject.{CompositionObject}
-use Rattle.pgs_object.specs.Reassembly.{shownBy}
+use Rattle.pgs_reassembly.specs.Reassembly.{shownBy}
 use Rattle.pgs_rendering.specs.declared.Bitmap.{Bitmap}
 
 -- an object's width and height are numbers of two bytes

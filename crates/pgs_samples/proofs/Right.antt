@@ -6,7 +6,7 @@ use Rattle.pgs_base.specs.Bytes.{num}
 use Rattle.pgs_run_length.specs.RunLength.{codesOf}
 use Rattle.pgs_stream.specs.Stream.{readOf}
 use Rattle.pgs_set.specs.Sets.{setsOf}
-use Rattle.pgs_object.specs.Objects.{objectsOf}
+use Rattle.pgs_reassembly.specs.Objects.{objectsOf}
 use Rattle.pgs_samples.specs.Samples.{Sample, answerOf, starred}
 
 pub right : map (λ (s : Sample). answerOf (s .question)) starred ≡ map (λ (s : Sample). s .answer) starred

@@ -7,7 +7,7 @@ use Rattle.pgs_base.specs.Outcome.{Outcome, gives, refuses, outcomeOf}
 use Rattle.pgs_bitmap_check.specs.Bitmap.{readingOf, bitmapOf}
 use Rattle.pgs_color.specs.Bytes.{rgbOf}
 use Rattle.pgs_color.specs.declared.ycbcr.Rgb8.{Rgb8}
-use Rattle.pgs_object.specs.Objects.{Chain, dataOf, objectsOf, objectsVerdict}
+use Rattle.pgs_reassembly.specs.Objects.{Chain, dataOf, objectsOf, objectsVerdict}
 
 pub data Question : Type 0 where
   -- "Bitmaps, width/height": the pixels of these bytes

@@ -25,35 +25,41 @@ fn write_one(p: [u16; 10], out: &mut [u8]) -> WriteAnswer {
     encode_pcs(1, 2, pcs, &list, out)
 }
 
-fn placements() {
+// Writes it into an output that is long enough for every placement.
+fn placement(title: &[u8], p: [u16; 10]) {
     let mut out = [0xEEu8; 40];
-    let mut short = [0xEEu8; 39];
-    let bare = [5, 0, 0, 100, 980, 1, 1, 2, 3, 4];
-    show::written(b"crop without flag 40", write_one(bare, &mut out), &out);
-    let c0 = [5, 0, 0xC0, 100, 980, 1, 1, 2, 3, 4];
-    show::written(b"crop at flag C0", write_one(c0, &mut out), &out);
-    let uncropped = [5, 0, 0x40, 100, 980, 0, 1, 2, 3, 4];
-    show::written(
-        b"flag 40 without crop",
-        write_one(uncropped, &mut out),
-        &out,
-    );
+    show::written(title, write_one(p, &mut out), &out);
+}
+
+fn short_output(title: &[u8], p: [u16; 10]) {
+    let mut out = [0xEEu8; 39];
+    show::written(title, write_one(p, &mut out), &out);
+}
+
+fn placements() {
     let window = [5, 256, 0, 100, 980, 0, 0, 0, 0, 0];
-    show::written(b"window id of 256", write_one(window, &mut out), &out);
-    show::written(b"the same, no output", write_one(window, &mut []), &[]);
     let cropped = [5, 255, 0x40, 100, 980, 1, 1, 2, 3, 4];
-    show::written(b"crop, into 39", write_one(cropped, &mut short), &short);
-    show::written(b"crop, into 40", write_one(cropped, &mut out), &out);
+    placement(b"crop without flag 40", [5, 0, 0, 100, 980, 1, 1, 2, 3, 4]);
+    placement(b"crop at flag C0", [5, 0, 0xC0, 100, 980, 1, 1, 2, 3, 4]);
+    placement(
+        b"flag 40 without crop",
+        [5, 0, 0x40, 100, 980, 0, 1, 2, 3, 4],
+    );
+    placement(b"window id of 256", window);
+    show::written(b"the same, no output", write_one(window, &mut []), &[]);
+    short_output(b"crop, into 39", cropped);
+    placement(b"crop, into 40", cropped);
+}
+
+fn list(title: &[u8], windows: &[[u16; 5]]) {
+    let mut out = [0xEEu8; 23];
+    show::written(title, encode_wds(1, 2, windows, &mut out), &out);
 }
 
 fn windows() {
-    let mut out = [0xEEu8; 23];
-    let wide = [[256u16, 100, 980, 16, 8]; 1];
-    show::written(b"WDS, id of 256", encode_wds(1, 2, &wide, &mut out), &out);
-    let many = [[1u16, 100, 980, 16, 8]; 256];
-    show::written(b"256 windows", encode_wds(1, 2, &many, &mut out), &out);
-    let one = [[1u16, 100, 980, 16, 8]; 1];
-    show::written(b"one window", encode_wds(1, 2, &one, &mut out), &out);
+    list(b"WDS, id of 256", &[[256, 100, 980, 16, 8]]);
+    list(b"256 windows", &[[1, 100, 980, 16, 8]; 256]);
+    list(b"one window", &[[1, 100, 980, 16, 8]]);
 }
 
 // A fragment with two data bytes.
@@ -68,41 +74,32 @@ fn write_fragment(flag: u8, declared: u32, dimensions: Dimensions, out: &mut [u8
     encode_ods(1, 2, ods, b"\xAA\xBB", out)
 }
 
-fn fragments() {
+fn fragment(title: &[u8], flag: u8, declared: u32, dimensions: Dimensions) {
     let mut out = [0xEEu8; 26];
-    let mut short = [0xEEu8; 25];
+    show::written(
+        title,
+        write_fragment(flag, declared, dimensions, &mut out),
+        &out,
+    );
+}
+
+fn fragment_into_25(title: &[u8], flag: u8, declared: u32, dimensions: Dimensions) {
+    let mut out = [0xEEu8; 25];
+    show::written(
+        title,
+        write_fragment(flag, declared, dimensions, &mut out),
+        &out,
+    );
+}
+
+fn fragments() {
     let size = Dimensions::Present(16, 8);
-    let none = Dimensions::Absent;
-    show::written(
-        b"dimensions at a last fragment",
-        write_fragment(0x40, 6, size, &mut out),
-        &out,
-    );
-    show::written(
-        b"dimensions at a middle one",
-        write_fragment(0, 6, size, &mut out),
-        &out,
-    );
-    show::written(
-        b"none at a first one",
-        write_fragment(0x80, 6, none, &mut out),
-        &out,
-    );
-    show::written(
-        b"declared 2^24",
-        write_fragment(0xC0, 0x100_0000, size, &mut out),
-        &out,
-    );
-    show::written(
-        b"declared 2^24 - 1, into 25",
-        write_fragment(0xC0, 0xFF_FFFF, size, &mut short),
-        &short,
-    );
-    show::written(
-        b"declared 2^24 - 1, into 26",
-        write_fragment(0xC0, 0xFF_FFFF, size, &mut out),
-        &out,
-    );
+    fragment(b"dimensions at a last fragment", 0x40, 6, size);
+    fragment(b"dimensions at a middle one", 0, 6, size);
+    fragment(b"none at a first one", 0x80, 6, Dimensions::Absent);
+    fragment(b"declared 2^24", 0xC0, 0x100_0000, size);
+    fragment_into_25(b"declared 2^24 - 1, into 25", 0xC0, 0xFF_FFFF, size);
+    fragment(b"declared 2^24 - 1, into 26", 0xC0, 0xFF_FFFF, size);
 }
 
 fn others() {

@@ -1,6 +1,6 @@
 //! The inputs of the layer: crops and positions exhaustively, every refusal, random sets and damaged copies.
 
-use super::check;
+use super::{check, examples};
 use crate::bitmap::codes::{good_data, runs};
 use crate::captions::{captions, HOUR};
 use crate::generate::{damaged, segment, starts, CROPPED, END, ODS, PCS, PDS, WDS};
@@ -23,6 +23,7 @@ pub fn groups() -> Vec<Group> {
         group("damaged sets", |run| streams(run, damaged_sets)),
         group("good sets of the layer of sets", |run| streams(run, sets::good)),
         group("random segments of sets", |run| streams(run, sets::random)),
+        group("the worked examples", |run| streams(run, examples::streams)),
     ]
 }
 
@@ -32,32 +33,41 @@ fn streams(run: &mut Run, make: fn(&mut Sink)) {
 
 /// Where an object goes, with a crop or without.
 #[derive(Clone, Copy)]
-struct Placement {
-    id: u16,
-    at: (u16, u16),
-    crop: Option<[u16; 4]>,
+pub struct Placement {
+    pub id: u16,
+    pub at: (u16, u16),
+    pub flag: u8,
+    pub crop: Option<[u16; 4]>,
 }
 
-fn whole(id: u16, x: u16, y: u16) -> Placement {
-    Placement { id, at: (x, y), crop: None }
+/// A placement whose flag says whether there is a crop.
+pub fn placed(id: u16, at: (u16, u16), crop: Option<[u16; 4]>) -> Placement {
+    Placement { id, at, flag: if crop.is_some() { CROPPED } else { 0 }, crop }
 }
 
-/// A composition that names palette 5.
-fn pcs((width, height): (u16, u16), placements: &[Placement]) -> Vec<u8> {
+pub fn whole(id: u16, x: u16, y: u16) -> Placement {
+    placed(id, (x, y), None)
+}
+
+/// The body of a composition that names palette 5.
+pub fn composition((width, height): (u16, u16), placements: &[Placement]) -> Vec<u8> {
     let [width, height] = [width, height].map(u16::to_be_bytes);
     let mut body = [width, height].concat();
     body.extend([0x10, 0, 1, 0x80, 0, 5, placements.len() as u8]);
-    for Placement { id, at: (x, y), crop } in placements {
+    for Placement { id, at: (x, y), flag, crop } in placements {
         let [id, x, y] = [*id, *x, *y].map(u16::to_be_bytes);
-        let flag = if crop.is_some() { CROPPED } else { 0 };
-        body.extend([id, [0, flag], x, y].concat());
+        body.extend([id, [0, *flag], x, y].concat());
         body.extend(crop.iter().flatten().flat_map(|cell| cell.to_be_bytes()));
     }
-    segment(PCS, 0x0001_5F90, 7, &body)
+    body
+}
+
+fn pcs(plane: (u16, u16), placements: &[Placement]) -> Vec<u8> {
+    segment(PCS, 0x0001_5F90, 7, &composition(plane, placements))
 }
 
 /// A palette: entries of id, Y, Cr, Cb, alpha.
-fn pds(id: u8, entries: &[[u8; 5]]) -> Vec<u8> {
+pub fn pds(id: u8, entries: &[[u8; 5]]) -> Vec<u8> {
     segment(PDS, 1, 0, &[&[id, 0], entries.as_flattened()].concat())
 }
 
@@ -74,7 +84,7 @@ fn colors() -> Vec<u8> {
 }
 
 /// An object of one fragment.
-fn ods(id: u16, (width, height): (u16, u16), data: &[u8]) -> Vec<u8> {
+pub fn ods(id: u16, (width, height): (u16, u16), data: &[u8]) -> Vec<u8> {
     let declared = (data.len() as u32 + 4).to_be_bytes();
     let [id, width, height] = [id, width, height].map(u16::to_be_bytes);
     let head = [&id[..], &[0, 0xC0], &declared[1..], &width, &height].concat();
@@ -82,7 +92,7 @@ fn ods(id: u16, (width, height): (u16, u16), data: &[u8]) -> Vec<u8> {
 }
 
 /// The same object in two fragments.
-fn split(id: u16, (width, height): (u16, u16), data: &[u8]) -> [Vec<u8>; 2] {
+pub fn split(id: u16, (width, height): (u16, u16), data: &[u8]) -> [Vec<u8>; 2] {
     let declared = (data.len() as u32 + 4).to_be_bytes();
     let (front, rest) = data.split_at(data.len() / 2);
     let [id, width, height] = [id, width, height].map(u16::to_be_bytes);
@@ -91,7 +101,7 @@ fn split(id: u16, (width, height): (u16, u16), data: &[u8]) -> [Vec<u8>; 2] {
     [segment(ODS, 1, 0, &first), segment(ODS, 1, 0, &last)]
 }
 
-fn end() -> Vec<u8> {
+pub fn end() -> Vec<u8> {
     segment(END, 1, 0, &[])
 }
 
@@ -105,7 +115,7 @@ fn every_place(to: &mut Sink) {
     for x in places(5) {
         for y in places(4) {
             for crop in [None, Some([0, 0, 3, 2]), Some([1, 1, 2, 1]), Some([1, 0, 65_535, 65_535])] {
-                let placement = Placement { id: 7, at: (x, y), crop };
+                let placement = placed(7, (x, y), crop);
                 to.stream(&[pcs((4, 3), &[placement]), colors(), six(), end()].concat());
             }
         }
@@ -119,7 +129,7 @@ fn every_crop(to: &mut Sink) {
             for width in cells(4) {
                 for height in cells(3) {
                     let crop = Some([x, y, width, height]);
-                    let two = [Placement { id: 7, at: (1, 1), crop }, Placement { id: 7, at: (3, 0), crop }];
+                    let two = [placed(7, (1, 1), crop), placed(7, (3, 0), crop)];
                     to.stream(&[pcs((4, 3), &two), colors(), six(), end()].concat());
                 }
             }
@@ -219,7 +229,7 @@ fn empty(to: &mut Sink) {
             };
             for id in [7, 9] {
                 for crop in [None, Some([0, 0, 1, 1])] {
-                    let placement = Placement { id, at: (0, 0), crop };
+                    let placement = placed(id, (0, 0), crop);
                     to.stream(&[pcs(plane, &[placement]), colors(), ods(7, size, &lines), end()].concat());
                 }
             }
@@ -278,7 +288,7 @@ fn set(p: &mut Prng) -> Vec<u8> {
         }
         let at = (cell(p, plane.0), cell(p, plane.1));
         let crop = p.once_in(2).then(|| [size.0, size.1, size.0, size.1].map(|most| cell(p, most)));
-        placements.push(Placement { id, at, crop });
+        placements.push(placed(id, at, crop));
     }
     let mut chains: Vec<Vec<Vec<u8>>> = objects.iter().map(|(id, size)| chain(p, *id, *size)).collect();
     let mut stream = pcs(plane, &placements);

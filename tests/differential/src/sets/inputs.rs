@@ -1,6 +1,6 @@
 //! The inputs of the layer: short sequences exhaustively, the limit of 64 objects, random sets and damaged copies.
 
-use super::{check, check_browsing};
+use super::{check, check_browsing, examples};
 use crate::captions::{captions, HOUR};
 use crate::generate::*;
 use crate::prng::Prng;
@@ -19,6 +19,7 @@ pub fn groups() -> Vec<Group> {
         group("good sets", |run| streams(run, good)),
         group("damaged sets", |run| streams(run, damaged_sets)),
         group("random segments", |run| streams(run, random)),
+        group("the worked examples", |run| streams(run, examples::streams)),
     ]
 }
 

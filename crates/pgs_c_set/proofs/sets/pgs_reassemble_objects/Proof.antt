@@ -2,7 +2,7 @@
 -- Assumes nothing.
 use Rattle.pgs_c_set.proofs.ObjectLaws.{objects-refused, objects-accepted}
 use Rattle.pgs_c_set.proofs.sets.pgs_reassemble_objects.Statement.{statement}
-use Rattle.pgs_object.specs.Reassembly.{objectsOutcome}
+use Rattle.pgs_object.specs.Answers.{objectsOutcome}
 use borrow.Author.Needs.{needs}
 use denote.Ref.{now}
 use mathlib.Core.Path.{ap}

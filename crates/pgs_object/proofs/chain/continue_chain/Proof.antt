@@ -1,7 +1,7 @@
 -- `continue_chain` goes by the row that has the id.
 -- Assumes nothing.
 use borrow.Author.Needs.{needs}
-use Rattle.pgs_object.proofs.TableLaws.{continued-none, continued-closed, continued-fits, continued-on}
+use Rattle.pgs_reassembly.proofs.TableLaws.{continued-none, continued-closed, continued-fits, continued-on}
 use native.Mathlib.Omega.{arith}
 use denote.Ref.{now}
 use mathlib.Core.Path.{refl}

@@ -1,9 +1,9 @@
 -- `find_chains` takes each fragment up to the END: the loop keeps `Finding`.
 -- Assumes nothing.
 use borrow.Author.Needs.{needs}
-use Rattle.pgs_object.proofs.FindLaws.{Finding, finding, finds-here, found-all, finds-on, its-ods, finds-fit, found-refusal, finds-more}
+use Rattle.pgs_reassembly.proofs.FindLaws.{Finding, finding, finds-here, found-all, finds-on, its-ods, finds-fit, found-refusal, finds-more}
 use Rattle.pgs_set.proofs.SetLaws.{size-read, read-within}
-use Rattle.pgs_object.specs.Tables.{chainsOutcome}
+use Rattle.pgs_object.specs.Answers.{chainsOutcome}
 use Prim.Native.Nat.{_-_}
 use denote.Ref.{now}
 use lib.ListN.{length, drop}

@@ -1,8 +1,8 @@
 -- `find_row` passes the rows with other ids.
 -- Assumes nothing.
 use borrow.Author.Needs.{needs}
-use Rattle.pgs_object.proofs.ChainLaws.{row-here, row-on, row-none}
-use Rattle.pgs_object.specs.Tables.{rowWith}
+use Rattle.pgs_reassembly.proofs.ChainLaws.{row-here, row-on, row-none}
+use Rattle.pgs_reassembly.specs.Tables.{rowWith}
 use borrow.Author.Needs.{needs}
 use Prim.Native.Nat.{_+_, _-_, _≤_}
 use lib.ListN.{length, drop}

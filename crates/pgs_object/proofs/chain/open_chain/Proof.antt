@@ -1,7 +1,7 @@
 -- `open_chain` goes by the row that has the id, and by the room.
 -- Assumes nothing.
 use borrow.Author.Needs.{needs}
-use Rattle.pgs_object.proofs.TableLaws.{opened-open, opened-closed, opened-new, opened-full}
+use Rattle.pgs_reassembly.proofs.TableLaws.{opened-open, opened-closed, opened-new, opened-full}
 use denote.Ref.{now}
 use Rattle.pgs_object.proofs.chain.open_chain.Statement.{statement}
 use Rattle.pgs_object.proofs.chain.open_chain.Tie as tie

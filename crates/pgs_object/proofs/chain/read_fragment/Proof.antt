@@ -6,7 +6,7 @@ use Rattle.pgs_ods.specs.OdsBody.{odsOutcome}
 use Rattle.pgs_segment.specs.OneSegment.{usedBy}
 use Rattle.pgs_stream.specs.Stream.{stepVerdict}
 use Rattle.pgs_records.specs.declared.BodyList.{BodyList}
-use Rattle.pgs_object.proofs.FragmentLaws.{numbers-read, never-refused, head-read, numbers-within}
+use Rattle.pgs_reassembly.proofs.FragmentLaws.{numbers-read, never-refused, head-read, numbers-within}
 use Rattle.pgs_set.proofs.WalkLaws.{within-here}
 use Prim.Native.Nat.{ℕ, _+_, _≤_}
 use denote.Ref.{now}

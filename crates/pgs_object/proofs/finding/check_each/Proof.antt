@@ -1,8 +1,8 @@
 -- `check_each` goes from set to set: the loop keeps `Testing`.
 -- Assumes nothing.
 use borrow.Author.Needs.{needs}
-use Rattle.pgs_object.proofs.EachLaws.{Testing, testing, tests-all, tests-within, tests-open, tests-refusal, tests-on}
-use Rattle.pgs_object.specs.Tables.{foundOutcome}
+use Rattle.pgs_reassembly.proofs.EachLaws.{Testing, testing, tests-all, tests-within, tests-open, tests-refusal, tests-on}
+use Rattle.pgs_object.specs.Answers.{foundOutcome}
 use Prim.Native.Nat.{_-_}
 use denote.Ref.{now}
 use mathlib.Core.Path.{ap, _∙_}

@@ -1,8 +1,8 @@
 -- `find_in_set` finds the chains, then tests them.
 -- Assumes nothing.
 use borrow.Author.Needs.{needs}
-use Rattle.pgs_object.proofs.ObjectLaws.{found-none, found-within, found-length, found-small, found-refused, found-all}
-use Rattle.pgs_object.specs.Tables.{chainsOutcome, joinedOutcome}
+use Rattle.pgs_reassembly.proofs.ObjectLaws.{found-none, found-within, found-length, found-small, found-refused, found-all}
+use Rattle.pgs_object.specs.Answers.{chainsOutcome, joinedOutcome}
 use denote.Ref.{now}
 use mathlib.Core.Path.{sym, ap, _∙_}
 use native.Mathlib.Omega.{arith}

@@ -2,7 +2,7 @@
 -- Assumes nothing.
 use borrow.Author.Needs.{needs}
 use Rattle.pgs_base.proofs.Outcomes.{gave, turned-down}
-use Rattle.pgs_object.proofs.ObjectLaws.{set-objects, set-verdict, no-set}
+use Rattle.pgs_reassembly.proofs.ObjectLaws.{set-objects, set-verdict, no-set}
 use Rattle.pgs_object.proofs.finding.find_objects.Statement.{statement}
 use Rattle.pgs_set.proofs.NumberLaws.{stands-open}
 use Rattle.pgs_set.specs.Sets.{setNumber, setVerdict, setRow}

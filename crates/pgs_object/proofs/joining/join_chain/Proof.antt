@@ -1,7 +1,7 @@
 -- `join_chain` copies the data of its fragments in turn: the loop keeps `Joining`.
 -- Assumes nothing.
 use borrow.Author.Needs.{needs}
-use Rattle.pgs_object.proofs.JoinLaws.{Joining, joining, joins-here, joins-ods, joins-from, joins-to, joins-on, joins-other, joins-past, joined-all}
+use Rattle.pgs_reassembly.proofs.JoinLaws.{Joining, joining, joins-here, joins-ods, joins-from, joins-to, joins-on, joins-other, joins-past, joined-all}
 use Rattle.pgs_set.proofs.SetLaws.{size-read, read-within}
 use Prim.Native.Nat.{_+_, _-_}
 use denote.Ref.{now}

@@ -1,7 +1,7 @@
 -- `join_objects` lends each chain that is copied its own part: the loop keeps `Placing`.
 -- Assumes nothing.
 use borrow.Author.Needs.{needs}
-use Rattle.pgs_object.proofs.JoinLaws.{Placing, placing, places-none, places-within, places-part, places-on, placed-all}
+use Rattle.pgs_reassembly.proofs.JoinLaws.{Placing, placing, places-none, places-within, places-part, places-on, placed-all}
 use Prim.Native.Nat.{_-_}
 use denote.Ref.{now}
 use lib.ListN.{length}

@@ -1,9 +1,9 @@
 -- `check_chains` tests row by row: the loop keeps `Checking`.
 -- Assumes nothing.
 use borrow.Author.Needs.{needs}
-use Rattle.pgs_object.proofs.ListingLaws.{Checking, checking, checked-open, checked-small, checked-unequal, checks-on, checked, joined-total}
+use Rattle.pgs_reassembly.proofs.ListingLaws.{Checking, checking, checked-open, checked-small, checked-unequal, checks-on, checked, joined-total}
 use Rattle.pgs_base.proofs.Outcomes.{gives-as, refuses-as}
-use Rattle.pgs_object.specs.Tables.{joinedIn}
+use Rattle.pgs_reassembly.specs.Tables.{joinedIn}
 use Prim.Native.Nat.{_-_}
 use denote.Ref.{now}
 use lib.ListN.{length}

@@ -1,7 +1,7 @@
 -- `copied_length` goes by whether the chain is copied.
 -- Assumes nothing.
 use borrow.Author.Needs.{needs}
-use Rattle.pgs_object.proofs.ListingLaws.{copied-none, copied-all}
+use Rattle.pgs_reassembly.proofs.ListingLaws.{copied-none, copied-all}
 use Rattle.pgs_object.proofs.listing.copied_length.Statement.{statement}
 use Rattle.pgs_object.proofs.listing.copied_length.Tie as tie
 

@@ -1,7 +1,7 @@
 -- `data_place` goes by whether the chain is copied.
 -- Assumes nothing.
 use borrow.Author.Needs.{needs}
-use Rattle.pgs_object.proofs.ListingLaws.{place-stream, place-scratch}
+use Rattle.pgs_reassembly.proofs.ListingLaws.{place-stream, place-scratch}
 use Rattle.pgs_object.proofs.listing.data_place.Statement.{statement}
 use Rattle.pgs_object.proofs.listing.data_place.Tie as tie
 

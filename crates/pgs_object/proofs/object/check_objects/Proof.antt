@@ -2,7 +2,7 @@
 -- Assumes nothing.
 use borrow.Author.Needs.{needs}
 use Rattle.pgs_base.proofs.Outcomes.{gave, gave-value}
-use Rattle.pgs_object.proofs.EachLaws.{sets-refused, sets-tested}
+use Rattle.pgs_reassembly.proofs.EachLaws.{sets-refused, sets-tested}
 use Rattle.pgs_set.specs.Sets.{setsVerdict, setCount, setsOutcome}
 use denote.Ref.{now}
 use mathlib.Core.Path.{sym, ap, _∙_}

@@ -2,10 +2,10 @@
 -- Assumes nothing.
 use borrow.Author.Needs.{needs}
 use Rattle.pgs_base.proofs.Outcomes.{delivers-refusal}
-use Rattle.pgs_object.proofs.ObjectLaws.{rows-length, lists-short, lists-all}
+use Rattle.pgs_reassembly.proofs.ObjectLaws.{rows-length, lists-short, lists-all}
 use Rattle.pgs_base.specs.Refusals.{numberOf}
-use Rattle.pgs_object.specs.Objects.{objectsOf, objectsVerdictWithin}
-use Rattle.pgs_object.specs.Tables.{foundOutcome}
+use Rattle.pgs_reassembly.specs.Objects.{objectsOf, objectsVerdictWithin}
+use Rattle.pgs_object.specs.Answers.{foundOutcome}
 use lib.ListN.{length}
 use denote.Ref.{now}
 use mathlib.Core.Path.{ap}

@@ -1,10 +1,10 @@
 -- `reassemble` finds the objects, tests both needs, then lists and joins.
 -- Assumes nothing.
 use borrow.Author.Needs.{needs}
-use Rattle.pgs_object.proofs.ObjectLaws.{reassembles-refusal, rows-length, both-few, both-short, both-all}
+use Rattle.pgs_reassembly.proofs.ObjectLaws.{reassembles-refusal, rows-length, both-few, both-short, both-all}
 use Rattle.pgs_base.specs.Refusals.{numberOf}
-use Rattle.pgs_object.specs.Objects.{objectsOf, objectsVerdictWithin}
-use Rattle.pgs_object.specs.Tables.{foundOutcome}
+use Rattle.pgs_reassembly.specs.Objects.{objectsOf, objectsVerdictWithin}
+use Rattle.pgs_object.specs.Answers.{foundOutcome}
 use lib.ListN.{length}
 use denote.Ref.{now}
 use mathlib.Core.Path.{ap}

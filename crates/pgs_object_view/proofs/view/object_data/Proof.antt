@@ -1,7 +1,7 @@
 -- `object_data` goes by the holder.
 -- Assumes nothing.
 use borrow.Author.Needs.{needs}
-use Rattle.pgs_object.proofs.ViewLaws.{shows-stream, shows-scratch, shows-none}
+use Rattle.pgs_reassembly.proofs.ViewLaws.{shows-stream, shows-scratch, shows-none}
 use denote.Ref.{now}
 use Rattle.pgs_object_view.proofs.view.object_data.Statement.{statement}
 use Rattle.pgs_object_view.proofs.view.object_data.Tie as tie

@@ -1,7 +1,7 @@
 -- `part` tests that its part lies within.
 -- Assumes nothing.
 use borrow.Author.Needs.{needs}
-use Rattle.pgs_object.proofs.ViewLaws.{part-past, part-long, part-whole}
+use Rattle.pgs_reassembly.proofs.ViewLaws.{part-past, part-long, part-whole}
 use denote.Ref.{now}
 use Rattle.pgs_object_view.proofs.view.part.Statement.{statement}
 use Rattle.pgs_object_view.proofs.view.part.Tie as tie

@@ -3,7 +3,7 @@
 use borrow.Author.Needs.{needs}
 use denote.Ref.{now}
 use mathlib.Core.Path.{refl, ap}
-use Rattle.pgs_object.specs.Reassembly.{objectsOutcome}
+use Rattle.pgs_object.specs.Answers.{objectsOutcome}
 use Rattle.pgs_rendering.proofs.OpeningLaws.{front-within, front-length, lists-refused, lists-count, lists-objects, objects-refused}
 use Rattle.pgs_render.proofs.render.render.Statement.{statement}
 use Rattle.pgs_render.proofs.render.render.Tie as tie

@@ -1,0 +1,3 @@
+pub mod Objects
+pub mod Reassembly
+pub mod Tables
