@@ -1,8 +1,9 @@
 -- Laws of outcomes: what an answer tells of the verdict, and the three ways a call that fills a lent list ends. Assumes nothing.
-use mathlib.Core.Path.{_≡_, refl, ap}
+use mathlib.Core.Path.{_≡_, refl, sym, ap, _∙_}
 use mathlib.Core.Bool.{Bool, true, false}
 use mathlib.Core.List.{List}
 use Prim.Native.Nat.{ℕ, _≤_, _<_}
+use native.Mathlib.Omega.{arith}
 use borrow.Author.Tests.{le-leb, lt-leb}
 use lib.ListN.{length}
 use Rattle.pgs_base.specs.Outcome.{Verdict, accepted, refused, gives, refuses, outcomeOf, andThen, unless, isAccepted, laid, delivery, Delivered}
@@ -29,6 +30,14 @@ module _ {X : Type 0} where
 
   pub refuses-as : {v : Verdict} (a : X) {k : ℕ} → v ≡ refused k → refuses k ≡ outcomeOf v a
   refuses-as a e = rw e
+
+-- a verdict does not accept and refuse
+pub not-both : {v : Verdict} {k : ℕ} → v ≡ accepted → v ≡ refused k → ⊥
+not-both e q = omega (arith, ap refusals (sym e ∙ q))
+  where
+    refusals : Verdict → ℕ
+    refusals accepted = 0
+    refusals (refused j) = 1
 
 -- a verdict of two tests that accepts: both hold
 pub first-holds : (k : ℕ) (t : Bool) (v : Verdict) → andThen (unless k t) v ≡ accepted → t ≡ true

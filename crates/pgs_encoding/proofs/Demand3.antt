@@ -10,12 +10,11 @@ use lib.Dec.{leb}
 use lib.ListN.{length, take, drop, getD, replicate, length-append, length-drop, length-map, take-append-drop}
 use lib.Seq.{take-at, drop-at, take-all, take-take, length-take-le, drop-drop}
 use Rattle.pgs_base.specs.Bytes.{Bytes}
-use Rattle.pgs_base.specs.Outcome.{Verdict, accepted, refused, isAccepted, unless, needing, laid}
-use Rattle.pgs_base.proofs.Digits.{bytes-drop, bytes-take}
+use Rattle.pgs_base.specs.Outcome.{Verdict, accepted, refused, unless, needing, laid}
 use Rattle.pgs_segment.specs.Fields.{SegmentFields}
 use Rattle.pgs_segment.specs.OneSegment.{usedBy, fieldsOf}
-use Rattle.pgs_stream.specs.Stream.{Reading, stepVerdict, readFirst, readOf, streamFields, joined}
-use Rattle.pgs_stream.proofs.ReadingLaws.{Each, Whole, own-fields, pieces-whole}
+use Rattle.pgs_stream.specs.Stream.{Reading, readOf, streamFields, joined}
+use Rattle.pgs_stream.proofs.ReadingLaws.{Each, Whole, own-fields, pieces-whole, pieces-bytes}
 use Rattle.pgs_records.proofs.RecordLaws.{first-fits, rest-fits}
 use Rattle.pgs_stream.proofs.StreamLaws.{read-on, read-stops, step-accepted}
 use Rattle.pgs_encoding.specs.Cut.{cutSegment, cutStream}
@@ -25,19 +24,6 @@ use Rattle.pgs_encoding.specs.Layout.{each}
 use Rattle.pgs_encoding.specs.Writable.{writable}
 use Rattle.pgs_encoding.specs.Writes.{writeInto, movedBy, Written, after, run}
 use Rattle.pgs_encoding.proofs.SegmentBytes.{encode-read, read-writable, encode-used, encode-accepted, encode-fields}
-
--- each piece of a list of bytes is one
-bytes-first : (n : ℕ) (l : List ℕ) → Bytes l → Each Bytes (readFirst n l .pieces)
-bytes-first zero l h = tt
-bytes-first (suc n) l h = go (isAccepted (stepVerdict l)) refl (bytes-first n (drop (usedBy l) l) (bytes-drop (usedBy l) l h))
-  where
-    go : (t : Bool) → isAccepted (stepVerdict l) ≡ t → Each Bytes (readFirst n (drop (usedBy l) l) .pieces) → Each Bytes (readFirst (suc n) l .pieces)
-    go true e ih = simp e (bytes-take (usedBy l) l h, ih)
-    go false e ih = simp e tt
-
-pieces-bytes : (s : List ℕ) → Bytes s → Each Bytes (readOf s .pieces)
-unfolding readOf
-pieces-bytes s h = bytes-first (length s) s h
 
 -- whole segments, read and encoded again
 cuts-are : (xs : List (List ℕ)) → Each Whole xs → Each Bytes xs → map cutSegment xs ≡ map encode (map fieldsOf xs)

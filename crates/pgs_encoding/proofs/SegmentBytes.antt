@@ -157,6 +157,11 @@ module _ (x : List ℕ) (h : Bytes x) (w : Whole x) where
       ∙ fit-append (frontFields 0x50 0x47 (ptsOf x) (dtsOf x) (kindOf x)) ((2, n) ∷ []) front-fit (simp (lt-ltb n (256 ^ 2) small)) in
       ap (λ (t : Bool). pick t (bodyWritable (bodyOf (segmentType x) (bodyAt x))) false) head ∙ body-fine
 
+pub encode-length : (f : SegmentFields) → length (encode f) ≡ 13 + length (bodyBytes (f .body))
+unfolding encode
+encode-length f =
+    rw (length-append, length-written (headFields (f .pts) (f .dts) (kindByte (f .body)) (length (bodyBytes (f .body)))))
+
 -- fields that can be written, encoded and read again, whatever follows
 module _ (f : SegmentFields) (ok : writable f ≡ true) (r : List ℕ) where
   headOf : List Field
@@ -181,12 +186,8 @@ module _ (f : SegmentFields) (ok : writable f ≡ true) (r : List ℕ) where
       ap (λ (l : List ℕ). num 1 0 l ∷ num 1 1 l ∷ num 4 2 l ∷ num 4 6 l ∷ num 1 10 l ∷ num 2 11 l ∷ []) shape
       ∙ read-fields headOf [] (bodyBytes (f .body) ++ r) 0 refl head-fit
 
-  pub encode-length : length (encode f) ≡ 13 + length (bodyBytes (f .body))
-  unfolding encode headOf
-  encode-length = rw (length-append, length-written headOf)
-
   pub encode-used : usedBy (encode f ++ r) ≡ length (encode f)
-  encode-used = ap (λ (n : List ℕ). 13 + getD n 5 0) numbers ∙ sym encode-length
+  encode-used = ap (λ (n : List ℕ). 13 + getD n 5 0) numbers ∙ sym (encode-length f)
 
   encode-body : bodyAt (encode f ++ r) ≡ bodyBytes (f .body)
   unfolding headOf
@@ -211,7 +212,7 @@ module _ (f : SegmentFields) (ok : writable f ≡ true) (r : List ℕ) where
   encode-accepted =
       let size = length-append (encode f) r in
       simp
-      (le-leb 13 (length (encode f ++ r)) (omega (arith, encode-length)), encode-marked, le-leb (usedBy (encode f ++ r)) (length (encode f ++ r)) (omega (arith, encode-used)))
+      (le-leb 13 (length (encode f ++ r)) (omega (arith, encode-length f)), encode-marked, le-leb (usedBy (encode f ++ r)) (length (encode f ++ r)) (omega (arith, encode-used)))
       ((λ i. bodyVerdict (encode-type i) (encode-body i)) ∙ again .taken)
 
   pub encode-fields : fieldsOf (encode f ++ r) ≡ f

@@ -1,7 +1,7 @@
 -- How testing and reading a PCS body end, over its bytes. Assumes nothing.
-use mathlib.Core.Path.{_≡_, sym, ap, _∙_}
+use mathlib.Core.Path.{_≡_, refl, sym, ap, _∙_}
 use mathlib.Core.Bool.{Bool, true, false}
-use mathlib.Core.List.{List}
+use mathlib.Core.List.{List, _∷_, map}
 use Prim.Native.Nat.{ℕ, _≤_, _<_}
 use native.Mathlib.Omega.{arith}
 use borrow.Author.Tests.{leb-true, le-leb, lt-leb, eq-eqb, ne-eqb}
@@ -11,10 +11,16 @@ use Rattle.pgs_base.specs.Bytes.{num}
 use Rattle.pgs_base.specs.Outcome.{Outcome, gives, refuses, accepted, outcomeOf, unless, pick}
 use Rattle.pgs_base.proofs.Outcomes.{first-holds, second-holds, holds}
 use Rattle.pgs_records.specs.Records.{recordsFit, recordsSize}
-use Rattle.pgs_pcs.specs.PcsBody.{cropped, croppingOf, placementOf, placementSize, placementRow, placementRows, placementCount, placementsAt, pcsVerdict, pcsList}
+use Rattle.pgs_pcs.specs.PcsBody.{cropped, croppingOf, placementOf, placementSize, cropCells, cropFrom, placementRow, placementsOf, placementRows, placementCount, placementsAt, pcsVerdict, pcsList}
 use Rattle.pgs_records.specs.declared.BodyList.{BodyList}
+use Rattle.pgs_pcs.specs.declared.pcs.Cropping.{Cropping}
 use Rattle.pgs_pcs.specs.declared.pcs.Cropping.the-variants.{Uncropped, Cropped}
 use Rattle.pgs_records.proofs.RecordLaws.{rows-length}
+
+-- a crop is told by its cells
+pub crop-back : (a b c d e : ℕ) (k : Cropping) → cropFrom (a ∷ b ∷ c ∷ d ∷ e ∷ cropCells k) ≡ k
+crop-back a b c d e Uncropped = refl
+crop-back a b c d e (Cropped crop) = refl
 
 -- a placement takes 16 bytes where its flag is 40, else 8
 module _ (l : List ℕ) where
@@ -65,6 +71,10 @@ module _ (b : List ℕ) where
 
   pub has-placements : pcsVerdict b ≡ accepted → recordsFit placementSize (placementCount b) (drop 11 b) ≡ true
   has-placements e = holds 4 _ (second-holds (unless 4 (leb 11 (length b))) _ e)
+
+  pub placement-list : placementRows b ≡ map placementRow (placementsOf b)
+  unfolding placementRows
+  placement-list = refl
 
   pub placement-rows : length (placementRows b) ≡ placementCount b
   unfolding placementRows

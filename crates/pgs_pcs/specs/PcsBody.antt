@@ -5,7 +5,7 @@
 use Prim.Native.Nat.{ℕ}
 use mathlib.Core.Bool.{Bool}
 use mathlib.Core.List.{List, [], _∷_, map}
-use lib.ListN.{length, drop}
+use lib.ListN.{length, drop, getD}
 use lib.Dec.{leb, eqb}
 use Rattle.pgs_base.specs.Bytes.{num}
 use Rattle.pgs_base.specs.Outcome.{Verdict, Outcome, gives, refuses, andThen, unless, pick}
@@ -49,6 +49,13 @@ placementOf l =
 abbrev pub cropCells : Cropping → List ℕ
 cropCells Uncropped = 0 ∷ 0 ∷ 0 ∷ 0 ∷ 0 ∷ []
 cropCells (Cropped c) = 1 ∷ c .«horizontal_position» ∷ c .«vertical_position» ∷ c .width ∷ c .height ∷ []
+
+-- and back: the crop that a record of ten cells says; where the mark is 0 the other cells are ignored
+abbrev pub cropFrom : List ℕ → Cropping
+cropFrom r =
+    pick (eqb (getD r 5 0) 0) Uncropped
+    (Cropped
+    (record { «horizontal_position» = getD r 6 0; «vertical_position» = getD r 7 0; width = getD r 8 0; height = getD r 9 0 }))
 
 -- a placement as a record of a caller's list
 abbrev pub placementRow : CompositionObject → List ℕ

@@ -2,7 +2,7 @@
 use mathlib.Core.Path.{_≡_, refl, sym, ap, _∙_}
 use mathlib.Core.Bool.{Bool, true, false}
 use mathlib.Core.List.{List, [], _∷_, map}
-use Prim.Native.Nat.{ℕ, _+_, _-_, _≤_, _<_}
+use Prim.Native.Nat.{ℕ, suc, _+_, _-_, _≤_, _<_}
 use native.Mathlib.Omega.{arith}
 use borrow.Author.Tests.{eq-eqb, ne-eqb, le-leb, lt-leb}
 use lib.Dec.{leb, eqb}
@@ -149,3 +149,8 @@ rows-records at (c ∷ cs) =
     holder : (b : Bool) → pick (eqb (pick b 1 0) 0) (dataPlace (c .first)) at ≡ pick b at (dataPlace (c .first))
     holder true = refl
     holder false = refl
+
+-- an object, a record
+pub record-count : (at : ℕ) (xs : List Chain) → length (rowsFrom at xs) ≡ length xs
+record-count at [] = refl
+record-count at (c ∷ xs) = ap suc (record-count (at + length (copiedData c)) xs)

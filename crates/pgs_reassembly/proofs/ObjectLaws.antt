@@ -2,7 +2,7 @@
 use mathlib.Core.Path.{_≡_, refl, sym, ap, subst, _∙_}
 use mathlib.Core.Bool.{Bool, true, false}
 use mathlib.Core.List.{List, [], _∷_, _++_, map}
-use Prim.Native.Nat.{ℕ, suc, _+_, _-_, _≤_, _<_}
+use Prim.Native.Nat.{ℕ, _+_, _-_, _≤_, _<_}
 use native.Mathlib.Omega.{arith}
 use borrow.Author.Tests.{eq-eqb, le-leb, lt-leb}
 use lib.Dec.{ltb, eqb}
@@ -17,12 +17,12 @@ use Rattle.pgs_segment.specs.declared.header.SegmentHeader.{SegmentHeader}
 use Rattle.pgs_base.proofs.Outcomes.{gave, gave-value, turned-down, delivers-short, delivers-all}
 use Rattle.pgs_set.proofs.Choices.{pick-first}
 use Rattle.pgs_reassembly.proofs.FragmentLaws.{none-left, left-same, left-next}
-use Rattle.pgs_reassembly.proofs.ListingLaws.{rows-verdict, rows-joined, rows-records}
+use Rattle.pgs_reassembly.proofs.ListingLaws.{rows-verdict, rows-joined, rows-records, record-count}
 use Rattle.pgs_set.proofs.NumberLaws.{stands-here}
 use Rattle.pgs_set.proofs.SetLaws.{size-read, set-here}
 use Rattle.pgs_set.proofs.WalkLaws.{pieces-here, piece-length}
 use Rattle.pgs_reassembly.specs.Objects.{Fragment, Chain, isOds, fragmentAt, fragmentsFrom, idOf, opensChain, withId, joined, chainsOf, dataOf, chainsVerdict, fragmentsVerdict, verdictAfter, fragmentsOf, objectsOf, objectsVerdictWithin}
-use Rattle.pgs_reassembly.specs.Reassembly.{copied, copiedData, joinedData, rowsFrom, objectRows, Reassembled}
+use Rattle.pgs_reassembly.specs.Reassembly.{copied, joinedData, objectRows, Reassembled}
 use Rattle.pgs_set.specs.Sets.{setNumber, setVerdict, isEnd, throughEnd, setCount, setsVerdict}
 use Rattle.pgs_reassembly.specs.Tables.{chainRow, total, FoundChains, Rows, Gathered, rowsVerdict, joinedIn, recordsFrom, rowData, joinedRows, Measured, fragmentsLeft}
 use Rattle.pgs_set.specs.Walks.{piecesAt, SetStands}
@@ -213,10 +213,6 @@ module _ (s : List ℕ) (v : Verdict) (cs : List Chain) (table : List (List ℕ)
 
   records : recordsFrom 0 (take n table) ≡ objectRows cs
   records = ap (recordsFrom 0) (r .rows) ∙ rows-records 0 cs
-
-  record-count : (at : ℕ) (xs : List Chain) → length (rowsFrom at xs) ≡ length xs
-  record-count at [] = refl
-  record-count at (c ∷ xs) = ap suc (record-count (at + length (copiedData c)) xs)
 
   module _ {list : List (List ℕ)} where
     pub lists-short : length list < n → Delivered v (length cs) (objectRows cs) list list (refuses 34)

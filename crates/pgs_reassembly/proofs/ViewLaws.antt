@@ -14,6 +14,7 @@ use Rattle.pgs_base.proofs.Outcomes.{gave, gave-value}
 use Rattle.pgs_segment.specs.OneSegment.{segmentType}
 use Rattle.pgs_set.proofs.Choices.{pick-first, pick-second}
 use Rattle.pgs_reassembly.proofs.FragmentLaws.{data-within, data-part}
+use Rattle.pgs_reassembly.proofs.ListingLaws.{record-count}
 use Rattle.pgs_reassembly.proofs.ObjectLaws.{Begins, AllBegin, all-begin, piece-here}
 use Rattle.pgs_reassembly.specs.Objects.{Fragment, Chain, fragmentAt, fragmentsFrom, fragmentsOf, chainsOf, joined, dataOf, dataPlace, objectsOf}
 use Rattle.pgs_set.specs.Sets.{noSet, isPcs, throughEnd, setsFrom, setsOf}
@@ -136,10 +137,6 @@ shown-after k s v {list} {list′} {scratch} {scratch′} {n} r =
     done : reassembly v (objectsOf k s) list scratch ≡ accepted
     done = gave (reassembly v (objectsOf k s) list scratch) (length (objectsOf k s)) (r .answered)
 
-    rows-length : (at : ℕ) (xs : List Chain) → length (rowsFrom at xs) ≡ length xs
-    rows-length at [] = refl
-    rows-length at (c ∷ xs) = ap suc (rows-length (at + length (copiedData c)) xs)
-
     new-scratch : scratch′ ≡ joinedData (objectsOf k s) ++ drop (length (joinedData (objectsOf k s))) scratch
     new-scratch = r .written ∙ ap (λ (w : Verdict). laid w (joinedData (objectsOf k s)) scratch) done
 
@@ -147,4 +144,4 @@ shown-after k s v {list} {list′} {scratch} {scratch′} {n} r =
     new-list =
         ap (take n) (r .listed ∙ ap (λ (w : Verdict). laid w (objectRows (objectsOf k s)) list) done)
         ∙ take-at (objectRows (objectsOf k s)) (drop (length (objectRows (objectsOf k s))) list) n
-        (rows-length 0 (objectsOf k s) ∙ sym (gave-value (reassembly v (objectsOf k s) list scratch) (length (objectsOf k s)) (r .answered)))
+        (record-count 0 (objectsOf k s) ∙ sym (gave-value (reassembly v (objectsOf k s) list scratch) (length (objectsOf k s)) (r .answered)))

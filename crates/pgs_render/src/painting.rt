@@ -10,7 +10,8 @@ ghost use Prim.Native.Nat.{_+_, _*_, _≤_, _<_, _^_};
 ghost use lib.ListN.{length};
 ghost use Rattle.pgs_plane.specs.Placing.{tableColor};
 ghost use Rattle.pgs_plane.specs.Pictures.{paintedAll};
-ghost use Rattle.pgs_rendering.specs.Rows.{Narrow, rowsArea, bitmapAt, lookAt, croppingIn, placementIn};
+ghost use Rattle.pgs_pcs.specs.PcsBody.{cropFrom};
+ghost use Rattle.pgs_rendering.specs.Rows.{Narrow, rowsArea, bitmapAt, lookAt, placementIn};
 
 // The bitmap of an object id; the bitmaps stand one after another from `from` on.
 fn find_bitmap(rows: &[[u64; 7]], from: usize, id: u16) -> Bitmap
@@ -42,7 +43,7 @@ fn find_bitmap(rows: &[[u64; 7]], from: usize, id: u16) -> Bitmap
 }
 
 fn cropping_of(row: [u16; 10]) -> Cropping
-    ensures { λ r. ⌜ r ≡ croppingIn row ⌝ }
+    ensures { λ r. ⌜ r ≡ cropFrom row ⌝ }
 {
     if row[5] == 0 {
         return Cropping::Uncropped;

@@ -7,18 +7,17 @@ use Prim.Native.Nat.{ℕ, zero, suc, _≤_, _<_}
 use native.Mathlib.Omega.{arith}
 use borrow.Author.Tests.{ne-eqb}
 use lib.Dec.{eqb}
-use lib.ListN.{length, take, drop}
+use lib.ListN.{take, drop}
 use Rattle.pgs_base.specs.Bytes.{big, num, Bytes}
-use Rattle.pgs_base.specs.Outcome.{isAccepted, pick}
+use Rattle.pgs_base.specs.Outcome.{pick}
 use Rattle.pgs_base.proofs.Digits.{bytes-take, bytes-drop}
 use Rattle.pgs_palette.specs.Palette.{entryOf, lookup, orElse}
 use Rattle.pgs_palette.proofs.Laying.{lookup-append}
 use Rattle.pgs_segment.specs.Header.{sizeOf}
-use Rattle.pgs_segment.specs.OneSegment.{segmentType, usedBy, bodyAt}
+use Rattle.pgs_segment.specs.OneSegment.{segmentType, bodyAt}
 use Rattle.pgs_pds.specs.PdsBody as pds
 use Rattle.pgs_records.specs.Records.{records}
-use Rattle.pgs_stream.specs.Stream.{stepVerdict, readFirst, readOf}
-use Rattle.pgs_stream.proofs.ReadingLaws.{Each}
+use Rattle.pgs_stream.proofs.ReadingLaws.{Each, pieces-bytes}
 use Rattle.pgs_set.specs.Sets.{isEnd, throughEnd}
 use Rattle.pgs_set.specs.Walks.{piecesAt}
 use Rattle.pgs_rendering.specs.Palettes.{isPds, entriesIn, entriesNamed, entriesAmong}
@@ -30,19 +29,6 @@ num-one at l h = go (drop at l) (bytes-drop at l h)
     go : (t : List ℕ) → Bytes t → big (take 1 t) < 256
     go [] b = omega arith
     go (x ∷ t) b = omega (arith, b 0)
-
--- each piece of a list of bytes is one
-bytes-first : (n : ℕ) (l : List ℕ) → Bytes l → Each Bytes (readFirst n l .pieces)
-bytes-first zero l h = tt
-bytes-first (suc n) l h = go (isAccepted (stepVerdict l)) refl (bytes-first n (drop (usedBy l) l) (bytes-drop (usedBy l) l h))
-  where
-    go : (t : Bool) → isAccepted (stepVerdict l) ≡ t → Each Bytes (readFirst n (drop (usedBy l) l) .pieces) → Each Bytes (readFirst (suc n) l .pieces)
-    go true e ih = simp e (bytes-take (usedBy l) l h, ih)
-    go false e ih = simp e tt
-
-pieces-bytes : (s : List ℕ) → Bytes s → Each Bytes (readOf s .pieces)
-unfolding readOf
-pieces-bytes s h = bytes-first (length s) s h
 
 through-bytes : (xs : List (List ℕ)) → Each Bytes xs → Each Bytes (throughEnd xs)
 through-bytes [] h = tt

@@ -1,51 +1,43 @@
 -- Finding a set's objects and its PCS, before it is painted. Assumes nothing.
 use mathlib.Core.Path.{_≡_, refl, sym, ap, _∙_}
 use mathlib.Core.List.{List, [], _∷_, _++_, map}
-use Prim.Native.Nat.{ℕ, suc, _+_, _-_, _≤_}
+use Prim.Native.Nat.{ℕ, _+_, _-_, _≤_}
 use native.Mathlib.Omega.{arith}
 use borrow.Author.Tests.{le-leb}
 use lib.Dec.{ltb}
-use lib.ListN.{length, take, drop, length-append, length-map}
+use lib.ListN.{length, take, drop, length-append}
 use lib.Seq.{take-at}
 use Rattle.pgs_base.specs.Bytes.{Bytes}
 use Rattle.pgs_base.specs.Outcome.{Verdict, accepted, refused, Outcome, gives, refuses, outcomeOf, andThen, unless, needing, laid, Delivered}
 use Rattle.pgs_views.specs.declared.«segment_type».SegmentType.{SegmentType}
-use Rattle.pgs_views.specs.declared.«segment_type».SegmentType.the-variants.{Pds, Ods, Pcs, Wds, End, Other}
-use Rattle.pgs_base.proofs.Outcomes.{gave-value, turned-down, first-accepts, second-holds, delivered, delivered-value, delivered-refusal}
+use Rattle.pgs_views.specs.declared.«segment_type».SegmentType.the-variants.{Pcs}
+use Rattle.pgs_base.proofs.Outcomes.{gave-value, turned-down, not-both, first-accepts, second-holds, delivered, delivered-value, delivered-refusal}
 use Rattle.pgs_color.specs.Bytes.{rgbOf}
 use Rattle.pgs_segment.specs.Fields.{bodyVerdict}
 use Rattle.pgs_segment.specs.Header.{ptsOf, headerFields, headerOf}
 use Rattle.pgs_segment.specs.OneSegment.{segmentType, segmentVerdict, usedBy, bodyAt}
-use Rattle.pgs_pcs.specs.PcsBody.{placementOf, placementSize, placementRow, placementCount, placementsOf, placementRows, pcsOf, pcsVerdict}
+use Rattle.pgs_pcs.specs.PcsBody.{placementRow, placementCount, placementsOf, placementRows, pcsOf, pcsVerdict}
 use Rattle.pgs_stream.specs.Stream.{stepVerdict}
 use Rattle.pgs_segment.specs.declared.header.SegmentHeader.{SegmentHeader}
 use Rattle.pgs_pcs.specs.declared.pcs.Pcs as composition
 use Rattle.pgs_stream.proofs.ReadingLaws.{own-body}
-use Rattle.pgs_records.proofs.RecordLaws.{records-length}
+use Rattle.pgs_stream.proofs.StreamLaws.{no-head}
 use Rattle.pgs_segment.proofs.SegmentLaws.{accepted-body}
+use Rattle.pgs_pcs.proofs.PcsLaws.{placement-list, placement-rows}
+use Rattle.pgs_reassembly.proofs.ListingLaws.{record-count}
 use Rattle.pgs_reassembly.specs.Objects.{Chain, objectsOf, objectsVerdict, objectLimit, fragmentsOf, fragmentsVerdict}
-use Rattle.pgs_set.specs.Sets.{setNumber, setVerdict, DisplaySet, kindVerdict, throughEnd, setsVerdict, setCount, setRow}
-use Rattle.pgs_reassembly.specs.Reassembly.{copiedData, rowsFrom, objectRows}
+use Rattle.pgs_set.specs.Sets.{setNumber, setVerdict, DisplaySet, throughEnd, setsVerdict, setCount, setRow}
+use Rattle.pgs_reassembly.specs.Reassembly.{objectRows}
 use Rattle.pgs_set.specs.Walks.{SetStands, FoundSet, piecesAt}
-use Rattle.pgs_set.specs.declared.grouping.Grouping.the-variants.{Outside}
 use Rattle.pgs_reassembly.proofs.FragmentLaws.{lent-body}
 use Rattle.pgs_set.proofs.NumberLaws.{stands-here, stands-open}
-use Rattle.pgs_set.proofs.SetLaws.{size-read, set-here, read-within}
+use Rattle.pgs_set.proofs.SetLaws.{size-read, set-here, read-within, only-pcs}
 use Rattle.pgs_set.proofs.WalkLaws.{kind-accepted}
 use Rattle.pgs_rendering.specs.Rendering.{roomVerdict, answerOf, Rendered}
 use Rattle.pgs_rendering.specs.Steps.{Listed, Opened, Composed, Placed}
 use Rattle.pgs_rendering.proofs.EntryLaws.{num-one}
 use Rattle.pgs_rendering.proofs.ObjectLaws.{few-accepted}
-use Rattle.pgs_rendering.proofs.PaletteLaws.{no-head}
 use Rattle.pgs_rendering.proofs.RenderLaws.{renders-none}
-
--- a verdict does not accept and refuse
-not-both : {v : Verdict} {k : ℕ} → v ≡ accepted → v ≡ refused k → ⊥
-not-both e q = omega (arith, ap refusals (sym e ∙ q))
-  where
-    refusals : Verdict → ℕ
-    refusals accepted = 0
-    refusals (refused j) = 1
 
 -- records that fill the front of a list that has room for them
 module _ {X : Type 0} {v : Verdict} {x : X} {rows before after : List (List ℕ)} {y : X} (d : Delivered v x rows before after (gives y)) where
@@ -68,12 +60,8 @@ answers w e = record { answered = e ∙ w .answered; stored = w .stored; shown =
 
 -- the objects
 module _ (k : ℕ) (s : List ℕ) where
-  rows-length : (at : ℕ) (xs : List Chain) → length (rowsFrom at xs) ≡ length xs
-  rows-length at [] = refl
-  rows-length at (c ∷ xs) = ap suc (rows-length (at + length (copiedData c)) xs)
-
   few-listed : objectsVerdict k s ≡ accepted → length (objectRows (objectsOf k s)) ≤ 64
-  few-listed e = omega (arith, rows-length 0 (objectsOf k s), few-accepted k s e)
+  few-listed e = omega (arith, record-count 0 (objectsOf k s), few-accepted k s e)
 
   module _ {list list′ : List (List ℕ)} where
     pub lists-refused : {n : ℕ} → Delivered (objectsVerdict k s) (length (objectsOf k s)) (objectRows (objectsOf k s)) list list′ (refuses n)
@@ -87,7 +75,7 @@ module _ (k : ℕ) (s : List ℕ) where
 
     module _ {n : ℕ} (d : Delivered (objectsVerdict k s) (length (objectsOf k s)) (objectRows (objectsOf k s)) list list′ (gives n)) where
       pub lists-count : n ≡ length (objectRows (objectsOf k s))
-      lists-count = delivered-value d ∙ sym (rows-length 0 (objectsOf k s))
+      lists-count = delivered-value d ∙ sym (record-count 0 (objectsOf k s))
 
       pub lists-objects : Listed k s (take n list′)
       lists-objects =
@@ -116,14 +104,6 @@ module _ (k : ℕ) (s : List ℕ) {rows : List (List ℕ)} (l : Listed k s rows)
   found-time f = let e = gave-value (setVerdict k s) (setRow (setNumber k s)) (f .answered) in cc
 
 -- the PCS
-only-pcs : (t : SegmentType) → kindVerdict Outside t ≡ accepted → t ≡ Pcs
-only-pcs Pcs e = refl
-only-pcs Wds e = cc
-only-pcs Pds e = cc
-only-pcs Ods e = cc
-only-pcs End e = cc
-only-pcs (Other v) e = cc
-
 module _ (k : ℕ) (s : List ℕ) {place : ℕ} (st : SetStands s k place) where
   ok : stepVerdict (drop place s) ≡ accepted
   ok = stands-here s k st
@@ -167,31 +147,23 @@ module _ (k : ℕ) (s : List ℕ) {place : ℕ} (st : SetStands s k place) where
 
 -- its placements
 module _ (b : List ℕ) where
-  placement-list : placementRows b ≡ map placementRow (placementsOf b)
-  unfolding placementRows
-  placement-list = refl
-
-  placement-count : length (placementRows b) ≡ placementCount b
-  placement-count =
-      ap length placement-list ∙ length-map (placementsOf b) placementRow ∙ records-length placementOf placementSize (placementCount b) (drop 11 b)
-
   module _ {list list′ : List (List ℕ)} where
     pub always-parsed : {n : ℕ} → Delivered {X = composition.Pcs × ℕ} (pcsVerdict b) (pcsOf b, placementCount b) (placementRows b) list list′ (refuses n)
         → length list ≡ 255 → pcsVerdict b ≡ accepted → Bytes b → ⊥
     always-parsed d size good h =
         not-both
-        (λ j. andThen (good j) (unless 34 (le-leb (length (placementRows b)) (length list) (omega (arith, placement-count, num-one 10 b h)) j)))
+        (λ j. andThen (good j) (unless 34 (le-leb (length (placementRows b)) (length list) (omega (arith, placement-rows b, num-one 10 b h)) j)))
         (delivered-refusal d)
 
     module _ {p : composition.Pcs} {n : ℕ} (d : Delivered {X = composition.Pcs × ℕ} (pcsVerdict b) (pcsOf b, placementCount b) (placementRows b) list list′ (gives (p, n))) where
       pub parsed-count : n ≡ length (placementRows b)
-      parsed-count = ap (λ (x : composition.Pcs × ℕ). x .1) (delivered-value d) ∙ sym placement-count
+      parsed-count = ap (λ (x : composition.Pcs × ℕ). x .1) (delivered-value d) ∙ sym (placement-rows b)
 
       pub parsed-placed : (k : ℕ) (s : List ℕ) {pts : ℕ} → Composed k s b pts → Placed k s p (take n list′)
       parsed-placed k s c =
           record {
             numbers = ap (λ (x : composition.Pcs × ℕ). x .0) (delivered-value d) ∙ ap pcsOf (c .whole);
-            records = front d parsed-count ∙ placement-list ∙ ap (λ (x : List ℕ). map placementRow (placementsOf x)) (c .whole);
+            records = front d parsed-count ∙ placement-list b ∙ ap (λ (x : List ℕ). map placementRow (placementsOf x)) (c .whole);
           }
 
       pub parsed-answer : (k : ℕ) (s : List ℕ) {pts : ℕ} → Composed k s b pts → (v : Verdict) {r : Outcome (ℕ × ℕ × ℕ)}

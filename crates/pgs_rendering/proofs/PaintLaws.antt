@@ -18,7 +18,8 @@ use Rattle.pgs_pcs.specs.declared.pcs.Cropping.{Cropping}
 use Rattle.pgs_pcs.specs.declared.pcs.Cropping.the-variants.{Uncropped, Cropped}
 use Rattle.pgs_pcs.specs.declared.pcs.CompositionObject.{CompositionObject}
 use Rattle.pgs_reassembly.proofs.Lists.{drop-next}
-use Rattle.pgs_rendering.specs.Rows.{rowArea, rowsArea, bitmapAt, imageAt, lookAt, croppingIn, placementIn}
+use Rattle.pgs_pcs.specs.PcsBody.{cropFrom}
+use Rattle.pgs_rendering.specs.Rows.{rowArea, rowsArea, bitmapAt, imageAt, lookAt, placementIn}
 use Rattle.pgs_rendering.specs.declared.Bitmap.{Bitmap}
 
 -- the crop of a placement's record
@@ -26,16 +27,16 @@ module _ (r : List ℕ) where
   crop : Cropping
   crop = Cropped (record { «horizontal_position» = getD r 6 0; «vertical_position» = getD r 7 0; width = getD r 8 0; height = getD r 9 0 })
 
-  pub crop-none : getD r 5 0 ≡ 0 → Uncropped ≡ croppingIn r
+  pub crop-none : getD r 5 0 ≡ 0 → Uncropped ≡ cropFrom r
   unfolding crop
   crop-none e = sym (ap (λ (b : Bool). pick b Uncropped crop) (eq-eqb (getD r 5 0) 0 e))
 
   pub crop-some : (getD r 5 0 ≡ 0 → ⊥)
-      → Cropped (record { «horizontal_position» = getD r 6 0; «vertical_position» = getD r 7 0; width = getD r 8 0; height = getD r 9 0 }) ≡ croppingIn r
+      → Cropped (record { «horizontal_position» = getD r 6 0; «vertical_position» = getD r 7 0; width = getD r 8 0; height = getD r 9 0 }) ≡ cropFrom r
   unfolding crop
   crop-some e = sym (ap (λ (b : Bool). pick b Uncropped crop) (ne-eqb (getD r 5 0) 0 e))
 
-  pub placed : {k : Cropping} → k ≡ croppingIn r
+  pub placed : {k : Cropping} → k ≡ cropFrom r
       → record {
         «object_id» = getD r 0 0;
         «window_id» = 0;

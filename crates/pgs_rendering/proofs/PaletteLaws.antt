@@ -10,14 +10,13 @@ use lib.ListN.{length, take, drop, getD, length-drop}
 use lib.Seq.{drop-drop, getD-drop}
 use Rattle.pgs_base.specs.Bytes.{num}
 use Rattle.pgs_views.specs.Kinds.{typeOf}
-use Rattle.pgs_base.specs.Outcome.{Verdict, accepted, refused, gives, refuses, pick}
+use Rattle.pgs_base.specs.Outcome.{Verdict, accepted, refuses, pick}
 use Rattle.pgs_views.specs.declared.«segment_type».SegmentType.{SegmentType}
 use Rattle.pgs_views.specs.declared.«segment_type».SegmentType.the-variants.{Pds, Ods, Pcs, Wds, End, Other}
 use Rattle.pgs_base.proofs.Bytes.{num-byte}
-use Rattle.pgs_base.proofs.Outcomes.{first-accepts, gave-value, turned-down}
-use Rattle.pgs_base.proofs.Lists.{to-end}
+use Rattle.pgs_base.proofs.Outcomes.{first-accepts}
 use Rattle.pgs_segment.specs.Fields.{bodyVerdict}
-use Rattle.pgs_segment.specs.Header.{headerVerdict, headerFields, headerOf}
+use Rattle.pgs_segment.specs.Header.{headerFields, headerOf}
 use Rattle.pgs_segment.specs.OneSegment.{segmentType, segmentVerdict, usedBy, bodyAt}
 use Rattle.pgs_pds.specs.PdsBody as pds
 use Rattle.pgs_records.specs.Records.{records}
@@ -33,7 +32,8 @@ use Rattle.pgs_set.specs.Sets.{isEnd, throughEnd}
 use Rattle.pgs_set.specs.Walks.{InSet, piecesAt}
 use Rattle.pgs_set.proofs.SetLaws.{kind-read, size-read, inside-more, inside-here, inside-on}
 use Rattle.pgs_reassembly.proofs.FragmentLaws.{lent-body}
-use Rattle.pgs_set.proofs.WalkLaws.{step-header, pieces-here, type-of-piece, within-here}
+use Rattle.pgs_stream.proofs.StreamLaws.{no-head}
+use Rattle.pgs_set.proofs.WalkLaws.{pieces-here, type-of-piece, within-here}
 use Rattle.pgs_rendering.specs.Palettes.{isPds, entriesIn, entriesNamed, entriesAmong}
 
 -- a call that changed a table that is long enough
@@ -187,19 +187,6 @@ module _ (named : ℕ) (s : List ℕ) (at : ℕ) (ok : stepVerdict (drop at s) �
   pds-body p =
       ap (λ (t : SegmentType). bodyVerdict t (bodyAt (drop at s))) (sym (only-pds (segmentType (drop at s)) p))
       ∙ accepted-body (drop at s) (first-accepts (segmentVerdict (drop at s)) _ ok)
-
--- the head of the segment at a place, as the code reads it
-module _ (s : List ℕ) (at : ℕ) where
-  pub head-of : {h : SegmentHeader} → gives h ≡ headerOf (take (length s - at) (drop at s)) → h ≡ headerFields (drop at s)
-  head-of e = gave-value (headerVerdict (take (length s - at) (drop at s))) _ e ∙ ap headerFields (to-end at s)
-
-  pub no-head : {k : ℕ} → stepVerdict (drop at s) ≡ accepted → refuses k ≡ headerOf (take (length s - at) (drop at s)) → ⊥
-  no-head {k} ok e =
-      let q : refused k ≡ accepted
-      = sym (turned-down (headerVerdict (take (length s - at) (drop at s))) (headerFields (take (length s - at) (drop at s))) e)
-      ∙ ap headerVerdict (to-end at s)
-      ∙ step-header (drop at s) ok in
-      let z : _≡_ {A = ℕ} 0 1 = cc in omega arith
 
 -- the palettes before `at` are laid over a table that was empty at the start
 pub record Tabling (named : ℕ) (s start : List ℕ) (from : ℕ) (t : List ℕ) (at : ℕ) : Type 0 where

@@ -12,19 +12,14 @@ use Rattle.pgs_bitmap_check.specs.Bitmap.{readingOf, bitmapOf}
 use Rattle.pgs_bitmap.proofs.BitmapArea.{bitmap-area}
 use Rattle.pgs_plane.specs.Pictures.{Layer, painted, paintedAll}
 use Rattle.pgs_plane.specs.Placing.{Image, imageOf, partOf, partShown, indexShown}
-use Rattle.pgs_pcs.specs.PcsBody.{cropCells, placementRow}
+use Rattle.pgs_pcs.specs.PcsBody.{placementRow}
+use Rattle.pgs_pcs.proofs.PcsLaws.{crop-back}
 use Rattle.pgs_pcs.specs.declared.pcs.Cropping.{Cropping}
-use Rattle.pgs_pcs.specs.declared.pcs.Cropping.the-variants.{Uncropped, Cropped}
 use Rattle.pgs_pcs.specs.declared.pcs.CompositionObject.{CompositionObject}
 use Rattle.pgs_reassembly.specs.Objects.{Chain, objectId, widthOf, heightOf, dataOf}
 use Rattle.pgs_reassembly.specs.Reassembly.{copiedData, rowsFrom}
 use Rattle.pgs_rendering.specs.Images.{imageIn, lookIn, bitmapsOf, bitmapsVerdict}
-use Rattle.pgs_rendering.specs.Rows.{bitmapAt, imageAt, lookAt, croppingIn, placementIn}
-
--- a crop is told by its cells
-cells-back : (a b c d e : ℕ) (k : Cropping) → croppingIn (a ∷ b ∷ c ∷ d ∷ e ∷ cropCells k) ≡ k
-cells-back a b c d e Uncropped = refl
-cells-back a b c d e (Cropped crop) = refl
+use Rattle.pgs_rendering.specs.Rows.{bitmapAt, imageAt, lookAt, placementIn}
 
 same-shown : (p : CompositionObject) (image : Image) → indexShown (placementIn (placementRow p)) image ≡ indexShown p image
 same-shown p image =
@@ -32,7 +27,7 @@ same-shown p image =
     (λ (k : Cropping).
     λ (x y : ℕ).
     partShown (partOf k (image .imageWidth) (image .imageHeight)) image (p .«object_horizontal_position») (p .«object_vertical_position») x y)
-    (cells-back (p .«object_id») (p .«window_id») (p .«object_cropped_flag») (p .«object_horizontal_position») (p .«object_vertical_position») (p .cropping))
+    (crop-back (p .«object_id») (p .«window_id») (p .«object_cropped_flag») (p .«object_horizontal_position») (p .«object_vertical_position») (p .cropping))
 
 -- the records of placements show what the placements do
 pub shown-rows : (color : ℕ → List ℕ) (look : ℕ → Image) (ps : List CompositionObject) (w h : ℕ) (plane : List ℕ)

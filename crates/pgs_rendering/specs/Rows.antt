@@ -8,8 +8,7 @@ use lib.ListN.{length, getD, take, drop}
 use Rattle.pgs_base.specs.Outcome.{Verdict, accepted, andThen, pick}
 use Rattle.pgs_bitmap_check.specs.Bitmap.{readingOf, bitmapOf}
 use Rattle.pgs_plane.specs.Placing.{Image, imageOf}
-use Rattle.pgs_pcs.specs.declared.pcs.Cropping.{Cropping}
-use Rattle.pgs_pcs.specs.declared.pcs.Cropping.the-variants.{Uncropped, Cropped}
+use Rattle.pgs_pcs.specs.PcsBody.{cropFrom}
 use Rattle.pgs_pcs.specs.declared.pcs.CompositionObject.{CompositionObject}
 use Rattle.pgs_reassembly.specs.Reassembly.{shownBy}
 use Rattle.pgs_rendering.specs.declared.Bitmap.{Bitmap}
@@ -71,12 +70,6 @@ abbrev pub lookAt : List ℕ → ℕ → List (List ℕ) → ℕ → Image
 lookAt scratch at rows id = imageAt scratch (bitmapAt at rows id)
 
 -- what a placement's record says of where it shows which part; painting does not look at the window and the flag
-abbrev pub croppingIn : List ℕ → Cropping
-croppingIn r =
-    pick (eqb (getD r 5 0) 0) Uncropped
-    (Cropped
-    (record { «horizontal_position» = getD r 6 0; «vertical_position» = getD r 7 0; width = getD r 8 0; height = getD r 9 0 }))
-
 abbrev pub placementIn : List ℕ → CompositionObject
 placementIn r =
     record {
@@ -85,7 +78,7 @@ placementIn r =
       «object_cropped_flag» = 0;
       «object_horizontal_position» = getD r 3 0;
       «object_vertical_position» = getD r 4 0;
-      cropping = croppingIn r;
+      cropping = cropFrom r;
     }
 
 -- data that is not in the stream stands in the scratch before a place

@@ -8,10 +8,11 @@ use native.Mathlib.Omega.{arith}
 use lib.ListN.{length, take, drop, getD, length-drop, length-append, take-append-drop}
 use lib.Seq.{drop-drop, length-take-le, getD-take, take-length}
 use borrow.Author.Tests.{le-leb}
-use Rattle.pgs_base.specs.Bytes.{num}
+use Rattle.pgs_base.specs.Bytes.{num, Bytes}
 use Rattle.pgs_views.specs.Kinds.{typeOf, rawOf}
 use Rattle.pgs_base.specs.Outcome.{accepted, isAccepted}
 use Rattle.pgs_base.proofs.Bytes.{num-take}
+use Rattle.pgs_base.proofs.Digits.{bytes-take, bytes-drop}
 use Rattle.pgs_base.proofs.Lists.{to-end, drop-take}
 use Rattle.pgs_base.proofs.Outcomes.{is-accepted, first-accepts}
 use Rattle.pgs_views.proofs.Views.{raw-type}
@@ -188,3 +189,16 @@ rows-first s (suc n) at l q =
 pub rows-lead : (s : List ℕ) → map (bodyByRow s) (segmentRows s) ≡ map bodyAt (readOf s .pieces)
 unfolding segmentRows readOf
 rows-lead s = rows-first s (length s) 0 s refl
+
+-- each piece of a list of bytes is one
+bytes-first : (n : ℕ) (l : List ℕ) → Bytes l → Each Bytes (readFirst n l .pieces)
+bytes-first zero l h = tt
+bytes-first (suc n) l h = go (isAccepted (stepVerdict l)) refl (bytes-first n (drop (usedBy l) l) (bytes-drop (usedBy l) l h))
+  where
+    go : (t : Bool) → isAccepted (stepVerdict l) ≡ t → Each Bytes (readFirst n (drop (usedBy l) l) .pieces) → Each Bytes (readFirst (suc n) l .pieces)
+    go true e ih = simp e (bytes-take (usedBy l) l h, ih)
+    go false e ih = simp e tt
+
+pub pieces-bytes : (s : List ℕ) → Bytes s → Each Bytes (readOf s .pieces)
+unfolding readOf
+pieces-bytes s h = bytes-first (length s) s h

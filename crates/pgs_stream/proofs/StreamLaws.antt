@@ -8,15 +8,17 @@ use borrow.Author.Tests.{lt-ltb}
 use lib.ListN.{length, take, drop, set, length-drop}
 use lib.Seq.{drop-drop, length-take-le, drop-length}
 use Rattle.pgs_base.specs.Bytes.{num}
-use Rattle.pgs_base.specs.Outcome.{Verdict, accepted, refused, Outcome, outcomeOf, isAccepted, laid}
+use Rattle.pgs_base.specs.Outcome.{Verdict, accepted, refused, Outcome, gives, refuses, outcomeOf, isAccepted, laid}
 use Rattle.pgs_base.proofs.Bytes.{num-take}
 use Rattle.pgs_base.proofs.Lists.{to-end}
 use Rattle.pgs_base.proofs.Front.{Front, begins, stored, filled}
-use Rattle.pgs_base.proofs.Outcomes.{is-accepted, first-accepts}
+use Rattle.pgs_base.proofs.Outcomes.{gave-value, turned-down, not-both, is-accepted, first-accepts}
+use Rattle.pgs_segment.specs.Header.{headerVerdict, headerFields, headerOf}
 use Rattle.pgs_segment.specs.OneSegment.{segmentVerdict, usedBy, frameOf}
+use Rattle.pgs_segment.specs.declared.header.SegmentHeader.{SegmentHeader}
 use Rattle.pgs_segment.specs.declared.segment.Frame.{Frame}
 use Rattle.pgs_stream.specs.Stream.{Reading, stepVerdict, before, readFirst, readOf, stoppedBy, streamVerdict, segmentCount, segmentRow, rowsFrom, segmentRows}
-use Rattle.pgs_segment.proofs.SegmentLaws.{accepted-size}
+use Rattle.pgs_segment.proofs.SegmentLaws.{accepted-head, accepted-size}
 
 -- a segment that is accepted lies within the list
 pub step-within : (l : List ℕ) → stepVerdict l ≡ accepted → usedBy l ≤ length l
@@ -34,6 +36,16 @@ pub frame-at : (s : List ℕ) (at : ℕ) {o : Outcome Frame}
     → o ≡ outcomeOf (segmentVerdict (take (length s - at) (drop at s))) (frameOf (take (length s - at) (drop at s)))
     → o ≡ outcomeOf (segmentVerdict (drop at s)) (frameOf (drop at s))
 frame-at s at e = e ∙ ap (λ (l : List ℕ). outcomeOf (segmentVerdict l) (frameOf l)) (to-end at s)
+
+-- the head of the segment at a place, as the code reads it: what is lent for that, too, goes to the end of the stream
+module _ (s : List ℕ) (at : ℕ) where
+  pub head-of : {h : SegmentHeader} → gives h ≡ headerOf (take (length s - at) (drop at s)) → h ≡ headerFields (drop at s)
+  head-of e = gave-value (headerVerdict (drop at s)) (headerFields (drop at s)) (e ∙ ap headerOf (to-end at s))
+
+  pub no-head : {k : ℕ} → stepVerdict (drop at s) ≡ accepted → refuses k ≡ headerOf (take (length s - at) (drop at s)) → ⊥
+  no-head ok e =
+      not-both (accepted-head (drop at s) (first-accepts (segmentVerdict (drop at s)) _ ok))
+      (turned-down (headerVerdict (drop at s)) (headerFields (drop at s)) (e ∙ ap headerOf (to-end at s)))
 
 -- enough fuel is enough
 same-fuel : (n m : ℕ) (l : List ℕ) → length l ≤ n → length l ≤ m → readFirst n l ≡ readFirst m l

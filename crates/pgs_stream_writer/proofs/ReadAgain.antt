@@ -7,10 +7,10 @@ use native.Mathlib.Omega.{arith}
 use borrow.Author.Tests.{le-leb}
 use lib.ListN.{length, take, drop, getD, length-append, length-map}
 use lib.Seq.{take-at}
-use Rattle.pgs_base.specs.Outcome.{Verdict, accepted, refused, Outcome, gives, refuses, unless, laid, Delivered, pick}
+use Rattle.pgs_base.specs.Outcome.{Verdict, accepted, Outcome, gives, refuses, unless, laid, Delivered, pick}
 use Rattle.pgs_base.proofs.Bytes.{num-byte}
 use Rattle.pgs_base.proofs.Lists.{to-end}
-use Rattle.pgs_base.proofs.Outcomes.{delivered, delivered-refusal}
+use Rattle.pgs_base.proofs.Outcomes.{not-both, delivered, delivered-refusal}
 use Rattle.pgs_views.specs.declared.«segment_type».SegmentType.the-variants as kinds
 use Rattle.pgs_views.specs.Kinds.{typeOf}
 use Rattle.pgs_views.specs.declared.«segment_type».SegmentType.{SegmentType}
@@ -19,7 +19,7 @@ use Rattle.pgs_segment.specs.Header.{sizeOf, headerFields}
 use Rattle.pgs_segment.specs.OneSegment.{segmentType, fieldsOf}
 use Rattle.pgs_segment.specs.declared.header.SegmentHeader.{SegmentHeader}
 use Rattle.pgs_ods.specs.OdsBody.{flagOf, headSize, odsOf, odsData}
-use Rattle.pgs_pcs.specs.PcsBody.{placementOf, placementSize, placementRow, placementCount, placementsOf, placementRows, pcsOf, pcsVerdict}
+use Rattle.pgs_pcs.specs.PcsBody.{placementOf, placementSize, placementRow, placementCount, placementsOf, pcsOf, pcsVerdict}
 use Rattle.pgs_pds.specs.PdsBody.{entryOf, entrySize, entryRow, entryCount, entriesOf, entryRows, pdsOf}
 use Rattle.pgs_wds.specs.WdsBody.{windowOf, windowSize, windowRow, windowCount, windowsOf, windowRows, wdsVerdict}
 use Rattle.pgs_ods.specs.declared.ods.Ods.{Ods}
@@ -30,27 +30,19 @@ use Rattle.pgs_pcs.specs.declared.pcs.Pcs.{Pcs}
 use Rattle.pgs_pds.specs.declared.pds.PaletteEntry.{PaletteEntry}
 use Rattle.pgs_pds.specs.declared.pds.Pds.{Pds}
 use Rattle.pgs_wds.specs.declared.wds.Window.{Window}
-use Rattle.pgs_pcs.proofs.PcsLaws.{has-numbers}
+use Rattle.pgs_pcs.proofs.PcsLaws.{crop-back, has-numbers}
 use Rattle.pgs_wds.proofs.WdsLaws.{has-count}
 use Rattle.pgs_records.proofs.RecordLaws.{records-length}
 use Rattle.pgs_encoding.specs.Encode.{encode}
 use Rattle.pgs_writer_base.specs.Kinds.{wdsSegment, pdsSegment, odsSegment, pcsSegment, pcsRowsWritable, segmentWith}
 use Rattle.pgs_encoding.specs.Layout.{each}
-use Rattle.pgs_writer_base.specs.Rows.{windowFrom, entryFrom, cropFrom, placementFrom, markFits}
+use Rattle.pgs_writer_base.specs.Rows.{windowFrom, entryFrom, placementFrom, markFits}
 use Rattle.pgs_encoding.specs.Writable.{writable}
 
 -- records and back
 back-again : {A : Type 0} (row : A → List ℕ) (back : List ℕ → A) → ((a : A) → back (row a) ≡ a) → (xs : List A) → map back (map row xs) ≡ xs
 back-again row back h [] = refl
 back-again row back h (x ∷ xs) = let e = h x in let r = back-again row back h xs in λ i. e i ∷ r i
-
--- a verdict does not accept and refuse
-pub not-both : {v : Verdict} {k : ℕ} → v ≡ accepted → v ≡ refused k → ⊥
-not-both e q = omega (arith, ap refusals (sym e ∙ q))
-  where
-    refusals : Verdict → ℕ
-    refusals accepted = 0
-    refusals (refused j) = 1
 
 as-many : {A : Type 0} (row : A → List ℕ) (xs : List A) {rows : List (List ℕ)} → rows ≡ map row xs → length rows ≡ length xs
 as-many row xs are = ap length are ∙ length-map xs row
@@ -99,11 +91,7 @@ placement-back p = ap (λ (c : Cropping). record {
   «object_horizontal_position» = p .«object_horizontal_position»;
   «object_vertical_position» = p .«object_vertical_position»;
   cropping = c;
-}) (go (p .cropping) refl)
-  where
-    go : (c : Cropping) → p .cropping ≡ c → cropFrom (placementRow p) ≡ p .cropping
-    go Uncropped e = rw e
-    go (Cropped c) e = rw e
+}) (crop-back (p .«object_id») (p .«window_id») (p .«object_cropped_flag») (p .«object_horizontal_position») (p .«object_vertical_position») (p .cropping))
 
 -- the mark of a crop is 0 or 1
 marks-fit : (ps : List CompositionObject) → each markFits (map placementRow ps) ≡ true
@@ -133,10 +121,6 @@ module _ (b : List ℕ) where
 
   pub entry-count : entryCount b ≡ length (entriesOf b)
   entry-count = sym (records-length entryOf entrySize (entryCount b) (drop 2 b))
-
-  pub placement-list : placementRows b ≡ map placementRow (placementsOf b)
-  unfolding placementRows
-  placement-list = refl
 
   pub placement-count : placementCount b ≡ length (placementsOf b)
   placement-count = sym (records-length placementOf placementSize (placementCount b) (drop 11 b))

@@ -12,13 +12,14 @@ use Rattle.pgs_base.specs.Bytes.{bytesOf}
 use Rattle.pgs_base.specs.Outcome.{pick}
 use Rattle.pgs_records.proofs.RecordLaws.{first-fits, rest-fits}
 use Rattle.pgs_segment.specs.Fields.{pcs}
+use Rattle.pgs_pcs.specs.PcsBody.{cropFrom}
 use Rattle.pgs_pcs.specs.declared.pcs.CompositionObjectCrop.{CompositionObjectCrop}
 use Rattle.pgs_pcs.specs.declared.pcs.Cropping.the-variants.{Uncropped, Cropped}
 use Rattle.pgs_pcs.specs.declared.pcs.Pcs.{Pcs}
 use Rattle.pgs_encoding.specs.Encode.{bodyBytes, cropFields, placementFields, pcsFields}
 use Rattle.pgs_writer_base.specs.Kinds.{pcsSegment, pcsRowsWritable, placementRowFits, placementRowsFit}
 use Rattle.pgs_encoding.specs.Layout.{Field, written, allFit, each, recordBytes}
-use Rattle.pgs_writer_base.specs.Rows.{placementFrom, cropFrom, markFits}
+use Rattle.pgs_writer_base.specs.Rows.{placementFrom, markFits}
 use Rattle.pgs_encoding.specs.Writable.{writable, placementWritable, cropWhere}
 use Rattle.pgs_writer_base.proofs.EachLaws.{each-at}
 use Rattle.pgs_writer_base.proofs.FitLaws.{pick-neither, pick-self}

@@ -5,7 +5,7 @@ use mathlib.Core.List.{List, _++_}
 use Prim.Native.Nat.{ℕ, _+_, _^_, _≤_, _<_}
 use native.Mathlib.Omega.{arith}
 use borrow.Author.Tests.{lt-ltb, le-ltb}
-use lib.ListN.{length, length-append}
+use lib.ListN.{length}
 use lib.Seq.{sets}
 use Rattle.pgs_base.specs.Outcome.{gives, refuses, unless, Delivered}
 use Rattle.pgs_base.proofs.Outcomes.{delivers-refusal, delivers-short, delivers-all}
@@ -36,11 +36,6 @@ module _ (f : SegmentFields) where
   writable-body p d k h e =
       simp
       (lt-ltb (f .pts) (256 ^ 4) p, lt-ltb (f .dts) (256 ^ 4) d, lt-ltb (kindByte (f .body)) (256 ^ 1) k, lt-ltb (length (bodyBytes (f .body))) (256 ^ 2) (omega arith), e)
-
-  pub encode-size : length (encode f) ≡ 13 + length (bodyBytes (f .body))
-  unfolding encode
-  encode-size =
-      rw (length-append, length-written (headFields (f .pts) (f .dts) (kindByte (f .body)) (length (bodyBytes (f .body)))))
 
   -- the head is stored, then the body
   pub encoded : (o : List ℕ) {m m′ : List ℕ} {s : ℕ} → s ≡ length (bodyBytes (f .body)) → m ≡ sets o 0 (written (headFields (f .pts) (f .dts) (kindByte (f .body)) s))

@@ -2,12 +2,10 @@
 use Prim.Native.Nat.{ℕ}
 use mathlib.Core.Bool.{Bool}
 use mathlib.Core.List.{List}
-use lib.Dec.{eqb, leb}
+use lib.Dec.{leb}
 use lib.ListN.{getD}
-use Rattle.pgs_base.specs.Outcome.{pick}
+use Rattle.pgs_pcs.specs.PcsBody.{cropFrom}
 use Rattle.pgs_pcs.specs.declared.pcs.CompositionObject.{CompositionObject}
-use Rattle.pgs_pcs.specs.declared.pcs.Cropping.{Cropping}
-use Rattle.pgs_pcs.specs.declared.pcs.Cropping.the-variants.{Uncropped, Cropped}
 use Rattle.pgs_pds.specs.declared.pds.PaletteEntry.{PaletteEntry}
 use Rattle.pgs_wds.specs.declared.wds.Window.{Window}
 
@@ -25,18 +23,6 @@ windowFrom r =
 -- id, Y, Cr, Cb, alpha
 abbrev pub entryFrom : List ℕ → PaletteEntry
 entryFrom r = record { «palette_entry_id» = getD r 0 0; y = getD r 1 0; cr = getD r 2 0; cb = getD r 3 0; alpha = getD r 4 0 }
-
--- crop present, crop x, y, width, height; where the mark is 0 the others are ignored
-abbrev pub cropFrom : List ℕ → Cropping
-cropFrom r =
-    pick (eqb (getD r 5 0) 0) Uncropped
-    (Cropped
-    (record {
-      «horizontal_position» = getD r 6 0;
-      «vertical_position» = getD r 7 0;
-      width = getD r 8 0;
-      height = getD r 9 0;
-    }))
 
 -- object id, window id, crop flag, x, y, then the crop's cells
 abbrev pub placementFrom : List ℕ → CompositionObject

@@ -16,7 +16,8 @@ ghost use Rattle.pgs_writer_base.specs.Answers.{writeOutcome};
 ghost use Rattle.pgs_encoding.specs.Encode.{encode, pcsFields, placementFields, cropFields};
 ghost use Rattle.pgs_writer_base.specs.Kinds.{pcsSegment, pcsRowsWritable, placementRowFits, placementRowsFit};
 ghost use Rattle.pgs_encoding.specs.Layout.{written, recordBytes};
-ghost use Rattle.pgs_writer_base.specs.Rows.{placementFrom, cropFrom};
+ghost use Rattle.pgs_pcs.specs.PcsBody.{cropFrom};
+ghost use Rattle.pgs_writer_base.specs.Rows.{placementFrom};
 
 // Whether a record can be written: a window id and a crop flag take one byte each, and a crop is marked exactly at flag 40.
 fn placement_fits(p: [u16; 10]) -> bool

@@ -10,7 +10,8 @@ use Rattle.pgs_segment.specs.Header.{headerOutcome}
 use Rattle.pgs_color.specs.Bytes.{rgbOf}
 use Rattle.pgs_palette.specs.Table.{laid}
 use Rattle.pgs_palette.proofs.Laying.{cleared-length}
-use Rattle.pgs_rendering.proofs.PaletteLaws.{changed, head-of, entriesLeft, Tabling, tabling, tables-more, tables-head, tables-within, tabled, tables-other, tables-body, tables-pds}
+use Rattle.pgs_stream.proofs.StreamLaws.{head-of}
+use Rattle.pgs_rendering.proofs.PaletteLaws.{changed, entriesLeft, Tabling, tabling, tables-more, tables-head, tables-within, tabled, tables-other, tables-body, tables-pds}
 use Rattle.pgs_render.proofs.palette.fill_table.Statement.{statement}
 use Rattle.pgs_render.proofs.palette.fill_table.Tie as tie
 

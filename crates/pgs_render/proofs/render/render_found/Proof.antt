@@ -6,7 +6,7 @@ use mathlib.Core.Path.{sym, ap, _∙_}
 use native.Mathlib.Omega.{arith}
 use Rattle.pgs_segment.specs.Header.{headerOutcome}
 use Rattle.pgs_rendering.proofs.OpeningLaws.{head-there, found-within, found-opened, found-composed}
-use Rattle.pgs_rendering.proofs.PaletteLaws.{head-of}
+use Rattle.pgs_stream.proofs.StreamLaws.{head-of}
 use Rattle.pgs_render.proofs.render.render_found.Statement.{statement}
 use Rattle.pgs_render.proofs.render.render_found.Tie as tie
 

@@ -1,16 +1,12 @@
 -- `fill_segments` stores a record for each segment: the loop keeps `Storing`.
 -- Assumes nothing.
 use Prim.Native.Nat.{ℕ, _-_}
-use Rattle.pgs_base.proofs.Lists.{to-end}
-use Rattle.pgs_base.proofs.Outcomes.{gave-value, turned-down, first-accepts}
-use Rattle.pgs_base.specs.Outcome.{accepted, refused, gives, refuses}
-use Rattle.pgs_segment.proofs.SegmentLaws.{accepted-head}
-use Rattle.pgs_segment.specs.Header.{sizeOf, headerVerdict, headerFields, headerOf, headerOutcome}
-use Rattle.pgs_segment.specs.OneSegment.{segmentVerdict}
+use Rattle.pgs_base.specs.Outcome.{gives}
+use Rattle.pgs_segment.specs.Header.{sizeOf, headerOf, headerOutcome}
 use Rattle.pgs_segment.specs.declared.header.SegmentHeader.{SegmentHeader}
-use Rattle.pgs_stream.proofs.StreamLaws.{Storing, storing, next-accepted, next-within, stores-on, stored-segments}
+use Rattle.pgs_stream.proofs.StreamLaws.{head-of, no-head, Storing, storing, next-accepted, next-within, stores-on, stored-segments}
 use Rattle.pgs_stream.proofs.stream.fill_segments.Statement.{statement}
-use Rattle.pgs_stream.specs.Stream.{stepVerdict, headRow}
+use Rattle.pgs_stream.specs.Stream.{headRow}
 use borrow.Author.Needs.{needs, scaled-fits}
 use denote.Ref.{now}
 use lib.ListN.{length, take, drop}
@@ -19,22 +15,9 @@ use mathlib.Core.Path.{_≡_, sym, ap, _∙_}
 use native.Mathlib.Omega.{arith}
 use Rattle.pgs_stream.proofs.stream.fill_segments.Tie as tie
 
--- the head that was read is the segment's: the part that is lent goes to the end of the stream
-module _ (s : List ℕ) (at : ℕ) where
-  its-head : {h : SegmentHeader} → gives h ≡ headerOf (take (length s - at) (drop at s)) → h ≡ headerFields (drop at s)
-  its-head e = gave-value (headerVerdict (drop at s)) (headerFields (drop at s)) (e ∙ ap headerOf (to-end at s))
-
-  its-size : {h : SegmentHeader} → gives h ≡ headerOf (take (length s - at) (drop at s)) → h .«segment_size» ≡ sizeOf (drop at s)
-  its-size e = ap (λ (h : SegmentHeader). h .«segment_size») (its-head e)
-
-  -- and is not refused
-  not-refused : {k : ℕ} → stepVerdict (drop at s) ≡ accepted → refuses k ≡ headerOf (take (length s - at) (drop at s)) → ⊥
-  not-refused {k} ok e =
-      let r : refused k ≡ accepted
-      = sym (turned-down (headerVerdict (drop at s)) (headerFields (drop at s)) (e ∙ ap headerOf (to-end at s)))
-      ∙ accepted-head (drop at s) (first-accepts (segmentVerdict (drop at s)) _ ok) in
-      let z : _≡_ {A = ℕ} 0 1 = cc in
-      omega arith
+-- the size in the head that was read
+its-size : (s : List ℕ) (at : ℕ) {h : SegmentHeader} → gives h ≡ headerOf (take (length s - at) (drop at s)) → h .«segment_size» ≡ sizeOf (drop at s)
+its-size s at e = ap (λ (h : SegmentHeader). h .«segment_size») (head-of s at e)
 
 abbrev Inv-loop : tie.InvT-loop
 Inv-loop s n list₀ i₀ at₀ list i at = Storing s n list₀ list i at
@@ -64,7 +47,7 @@ same-length : tie.Need-same-length Inv-loop μ-loop
 same-length c = c .before .before .before .before .before .loop .inv .front .same
 
 returns : tie.Need-returns Inv-loop μ-loop
-returns c = absurd (not-refused (now (c .before .before .before .before .before .before .before .args .s)) (c .before .before .before .before .before .loop .at) (next-accepted _ _ (c .before .before .before .before .before .loop .inv) (c .before .before .before .before .loop-test .taken)) (sym (ap headerOutcome (c .enum-told .given .1)) ∙ c .before .before .parse .ensures))
+returns c = absurd (no-head (now (c .before .before .before .before .before .before .before .args .s)) (c .before .before .before .before .before .loop .at) (next-accepted _ _ (c .before .before .before .before .before .loop .inv) (c .before .before .before .before .loop-test .taken)) (sym (ap headerOutcome (c .enum-told .given .1)) ∙ c .before .before .parse .ensures))
 
 enum-known-header : tie.Need-enum-known-header Inv-loop μ-loop
 enum-known-header c = search needs
@@ -94,7 +77,7 @@ loop-less : tie.Need-loop-less Inv-loop μ-loop
 loop-less c = omega arith
 
 loop-again : tie.Need-loop-again Inv-loop μ-loop
-loop-again c = rw (its-size (now (c .before .before .before .before .before .before .before .before .before .before .args .s)) (c .before .before .before .before .before .before .before .before .loop .at) (sym (ap headerOutcome (c .before .before .before .header .given .1)) ∙ c .before .before .before .before .before .parse .ensures)) (stores-on (now (c .before .before .before .before .before .before .before .before .before .before .args .s)) (c .before .before .before .before .before .before .before .before .before .before .args .n) (c .before .before .before .before .before .before .before .before .loop .inv) (c .before .before .before .before .before .before .before .loop-test .taken) (c .before .before .before .before .before .before .before .before .before .before .pre .1) (c .before .segment-record .result) (c .before .segment-record .ensures ∙ ap (headRow (c .before .before .before .before .before .before .before .before .loop .at)) (its-head (now (c .before .before .before .before .before .before .before .before .before .before .args .s)) (c .before .before .before .before .before .before .before .before .loop .at) (sym (ap headerOutcome (c .before .before .before .header .given .1)) ∙ c .before .before .before .before .before .parse .ensures))))
+loop-again c = rw (its-size (now (c .before .before .before .before .before .before .before .before .before .before .args .s)) (c .before .before .before .before .before .before .before .before .loop .at) (sym (ap headerOutcome (c .before .before .before .header .given .1)) ∙ c .before .before .before .before .before .parse .ensures)) (stores-on (now (c .before .before .before .before .before .before .before .before .before .before .args .s)) (c .before .before .before .before .before .before .before .before .before .before .args .n) (c .before .before .before .before .before .before .before .before .loop .inv) (c .before .before .before .before .before .before .before .loop-test .taken) (c .before .before .before .before .before .before .before .before .before .before .pre .1) (c .before .segment-record .result) (c .before .segment-record .ensures ∙ ap (headRow (c .before .before .before .before .before .before .before .before .loop .at)) (head-of (now (c .before .before .before .before .before .before .before .before .before .before .args .s)) (c .before .before .before .before .before .before .before .before .loop .at) (sym (ap headerOutcome (c .before .before .before .header .given .1)) ∙ c .before .before .before .before .before .parse .ensures))))
 
 same-length-2 : tie.Need-same-length-2 Inv-loop μ-loop
 same-length-2 c = c .before .loop .inv .front .same

@@ -2,13 +2,13 @@
 -- Assumes nothing.
 use borrow.Author.Needs.{needs}
 use Prim.Native.Nat.{ℕ, _≤_}
-use Rattle.pgs_base.proofs.Outcomes.{gave-value, turned-down}
+use Rattle.pgs_base.proofs.Outcomes.{gave-value, turned-down, not-both}
 use Rattle.pgs_base.specs.Outcome.{Outcome, accepted, gives, outcomeOf}
 use Rattle.pgs_ods.proofs.OdsLaws.{has-dimensions}
 use Rattle.pgs_ods.specs.OdsBody.{odsOf, odsVerdict, odsList, odsOutcome}
 use Rattle.pgs_ods.specs.declared.ods.Ods.{Ods}
 use Rattle.pgs_records.specs.declared.BodyList.{BodyList}
-use Rattle.pgs_stream_writer.proofs.ReadAgain.{not-both, same-write, ods-again}
+use Rattle.pgs_stream_writer.proofs.ReadAgain.{same-write, ods-again}
 use Rattle.pgs_stream_writer.proofs.rewrite.rewrite_ods.Statement.{statement}
 use denote.Ref.{now}
 use lib.ListN.{length}

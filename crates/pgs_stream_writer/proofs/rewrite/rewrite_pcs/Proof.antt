@@ -2,7 +2,8 @@
 -- Assumes nothing.
 use borrow.Author.Needs.{needs}
 use Rattle.pgs_pcs.specs.PcsBody.{placementRow, placementsOf, pcsOutcome}
-use Rattle.pgs_stream_writer.proofs.ReadAgain.{not-refused, room, front-length, read-again, same-write, placement-back, placement-list, placement-count, few-placements, pcs-again, marked, front}
+use Rattle.pgs_pcs.proofs.PcsLaws.{placement-list}
+use Rattle.pgs_stream_writer.proofs.ReadAgain.{not-refused, room, front-length, read-again, same-write, placement-back, placement-count, few-placements, pcs-again, marked, front}
 use Rattle.pgs_stream_writer.proofs.rewrite.rewrite_pcs.Statement.{statement}
 use Rattle.pgs_writer_base.specs.Rows.{placementFrom}
 use Rattle.pgs_base.proofs.Outcomes.{delivered-value}

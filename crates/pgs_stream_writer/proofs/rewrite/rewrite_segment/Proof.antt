@@ -2,14 +2,14 @@
 -- Assumes nothing.
 use borrow.Author.Needs.{needs}
 use Prim.Native.Nat.{ℕ, _+_, _-_, _≤_, _<_}
-use Rattle.pgs_base.proofs.Outcomes.{gave-value, turned-down}
+use Rattle.pgs_base.proofs.Outcomes.{gave-value, turned-down, not-both}
 use Rattle.pgs_views.specs.Kinds.{typeOf}
 use Rattle.pgs_base.specs.Outcome.{gives, outcomeOf}
 use Rattle.pgs_segment.proofs.SegmentLaws.{accepted-head, accepted-size, accepted-body, lent-verdict}
 use Rattle.pgs_segment.specs.Header.{sizeOf, headerVerdict, headerFields, headerOutcome}
 use Rattle.pgs_segment.specs.OneSegment.{segmentType}
 use Rattle.pgs_segment.specs.declared.header.SegmentHeader.{SegmentHeader}
-use Rattle.pgs_stream_writer.proofs.ReadAgain.{not-both, same-write, segment-again}
+use Rattle.pgs_stream_writer.proofs.ReadAgain.{same-write, segment-again}
 use Rattle.pgs_stream_writer.proofs.rewrite.rewrite_segment.Statement.{statement}
 use denote.Ref.{now}
 use lib.ListN.{length, take, drop, length-take}

@@ -1,7 +1,8 @@
 -- `encode_pds` tests the records, then the room, then stores head, numbers and entries.
 -- Assumes nothing.
 use Rattle.pgs_writer_base.proofs.WriteKinds.{pds-records, pds-length, pds-many, pds-unfit, pds-writable, pds-body}
-use Rattle.pgs_writer_base.proofs.WriteLaws.{encode-size, encoded, write-35, write-34, write-all}
+use Rattle.pgs_encoding.proofs.SegmentBytes.{encode-length}
+use Rattle.pgs_writer_base.proofs.WriteLaws.{encoded, write-35, write-34, write-all}
 use Rattle.pgs_writer_lists.proofs.pds.encode_pds.Statement.{statement}
 use Rattle.pgs_writer_base.specs.Kinds.{pdsSegment}
 use borrow.Author.Needs.{needs}
@@ -35,7 +36,7 @@ add-total : tie.Need-add-total
 add-total c = search needs
 
 returns-2 : tie.Need-returns-2
-returns-2 c = write-34 (pdsSegment (c .before .before .before .before .before .args .pts) (c .before .before .before .before .before .args .dts) (c .before .before .before .before .before .args .pds) (now (c .before .before .before .before .before .args .entries))) (now (c .before .before .before .before .before .args .out)) (pds-writable (c .before .before .before .before .before .args .pts) (c .before .before .before .before .before .args .dts) (c .before .before .before .before .before .args .pds) (now (c .before .before .before .before .before .args .entries)) (c .before .before .before .before .before .fits .pts .fits) (c .before .before .before .before .before .fits .dts .fits) (id-byte (c .before .before .before .before .before) .fits) (version-byte (c .before .before .before .before .before) .fits) (c .before .before .before .if1 .left) (sym (c .before .before .entries-fit .ensures) ∙ c .before .if2 .taken)) (omega (arith, encode-size (pdsSegment (c .before .before .before .before .before .args .pts) (c .before .before .before .before .before .args .dts) (c .before .before .before .before .before .args .pds) (now (c .before .before .before .before .before .args .entries))), pds-length (c .before .before .before .before .before .args .pts) (c .before .before .before .before .before .args .dts) (c .before .before .before .before .before .args .pds) (now (c .before .before .before .before .before .args .entries)), c .if3 .taken))
+returns-2 c = write-34 (pdsSegment (c .before .before .before .before .before .args .pts) (c .before .before .before .before .before .args .dts) (c .before .before .before .before .before .args .pds) (now (c .before .before .before .before .before .args .entries))) (now (c .before .before .before .before .before .args .out)) (pds-writable (c .before .before .before .before .before .args .pts) (c .before .before .before .before .before .args .dts) (c .before .before .before .before .before .args .pds) (now (c .before .before .before .before .before .args .entries)) (c .before .before .before .before .before .fits .pts .fits) (c .before .before .before .before .before .fits .dts .fits) (id-byte (c .before .before .before .before .before) .fits) (version-byte (c .before .before .before .before .before) .fits) (c .before .before .before .if1 .left) (sym (c .before .before .entries-fit .ensures) ∙ c .before .if2 .taken)) (omega (arith, encode-length (pdsSegment (c .before .before .before .before .before .args .pts) (c .before .before .before .before .before .args .dts) (c .before .before .before .before .before .args .pds) (now (c .before .before .before .before .before .args .entries))), pds-length (c .before .before .before .before .before .args .pts) (c .before .before .before .before .before .args .dts) (c .before .before .before .before .before .args .pds) (now (c .before .before .before .before .before .args .entries)), c .if3 .taken))
 
 cast-put-head : tie.Need-cast-put-head
 cast-put-head c = search needs
@@ -56,7 +57,7 @@ same-length : tie.Need-same-length
 same-length c = search needs
 
 returns-3 : tie.Need-returns-3
-returns-3 c = write-all (pdsSegment (c .before .before .before .before .before .before .before .before .before .before .before .before .before .before .before .before .before .before .before .before .before .args .pts) (c .before .before .before .before .before .before .before .before .before .before .before .before .before .before .before .before .before .before .before .before .before .args .dts) (c .before .before .before .before .before .before .before .before .before .before .before .before .before .before .before .before .before .before .before .before .before .args .pds) (now (c .before .before .before .before .before .before .before .before .before .before .before .before .before .before .before .before .before .before .before .before .before .args .entries))) (now (c .before .before .before .before .before .before .before .before .before .before .before .before .before .before .before .before .before .before .before .before .before .args .out)) (pds-writable (c .before .before .before .before .before .before .before .before .before .before .before .before .before .before .before .before .before .before .before .before .before .args .pts) (c .before .before .before .before .before .before .before .before .before .before .before .before .before .before .before .before .before .before .before .before .before .args .dts) (c .before .before .before .before .before .before .before .before .before .before .before .before .before .before .before .before .before .before .before .before .before .args .pds) (now (c .before .before .before .before .before .before .before .before .before .before .before .before .before .before .before .before .before .before .before .before .before .args .entries)) (c .before .before .before .before .before .before .before .before .before .before .before .before .before .before .before .before .before .before .before .before .before .fits .pts .fits) (c .before .before .before .before .before .before .before .before .before .before .before .before .before .before .before .before .before .before .before .before .before .fits .dts .fits) (id-byte (c .before .before .before .before .before .before .before .before .before .before .before .before .before .before .before .before .before .before .before .before .before) .fits) (version-byte (c .before .before .before .before .before .before .before .before .before .before .before .before .before .before .before .before .before .before .before .before .before) .fits) (c .before .before .before .before .before .before .before .before .before .before .before .before .before .before .before .before .before .before .before .if1 .left) (sym (c .before .before .before .before .before .before .before .before .before .before .before .before .before .before .before .before .before .before .entries-fit .ensures) ∙ c .before .before .before .before .before .before .before .before .before .before .before .before .before .before .before .before .before .if2 .taken)) (omega (arith, encode-size (pdsSegment (c .before .before .before .before .before .before .before .before .before .before .before .before .before .before .before .before .before .before .before .before .before .args .pts) (c .before .before .before .before .before .before .before .before .before .before .before .before .before .before .before .before .before .before .before .before .before .args .dts) (c .before .before .before .before .before .before .before .before .before .before .before .before .before .before .before .before .before .before .before .before .before .args .pds) (now (c .before .before .before .before .before .before .before .before .before .before .before .before .before .before .before .before .before .before .before .before .before .args .entries))), pds-length (c .before .before .before .before .before .before .before .before .before .before .before .before .before .before .before .before .before .before .before .before .before .args .pts) (c .before .before .before .before .before .before .before .before .before .before .before .before .before .before .before .before .before .before .before .before .before .args .dts) (c .before .before .before .before .before .before .before .before .before .before .before .before .before .before .before .before .before .before .before .before .before .args .pds) (now (c .before .before .before .before .before .before .before .before .before .before .before .before .before .before .before .before .before .before .before .before .before .args .entries)), c .before .before .before .before .before .before .before .before .before .before .before .before .before .before .before .before .if3 .left)) (omega (arith, encode-size (pdsSegment (c .before .before .before .before .before .before .before .before .before .before .before .before .before .before .before .before .before .before .before .before .before .args .pts) (c .before .before .before .before .before .before .before .before .before .before .before .before .before .before .before .before .before .before .before .before .before .args .dts) (c .before .before .before .before .before .before .before .before .before .before .before .before .before .before .before .before .before .before .before .before .before .args .pds) (now (c .before .before .before .before .before .before .before .before .before .before .before .before .before .before .before .before .before .before .before .before .before .args .entries))), pds-length (c .before .before .before .before .before .before .before .before .before .before .before .before .before .before .before .before .before .before .before .before .before .args .pts) (c .before .before .before .before .before .before .before .before .before .before .before .before .before .before .before .before .before .before .before .before .before .args .dts) (c .before .before .before .before .before .before .before .before .before .before .before .before .before .before .before .before .before .before .before .before .before .args .pds) (now (c .before .before .before .before .before .before .before .before .before .before .before .before .before .before .before .before .before .before .before .before .before .args .entries)))) (encoded (pdsSegment (c .before .before .before .before .before .before .before .before .before .before .before .before .before .before .before .before .before .before .before .before .before .args .pts) (c .before .before .before .before .before .before .before .before .before .before .before .before .before .before .before .before .before .before .before .before .before .args .dts) (c .before .before .before .before .before .before .before .before .before .before .before .before .before .before .before .before .before .before .before .before .before .args .pds) (now (c .before .before .before .before .before .before .before .before .before .before .before .before .before .before .before .before .before .before .before .before .before .args .entries))) (now (c .before .before .before .before .before .before .before .before .before .before .before .before .before .before .before .before .before .before .before .before .before .args .out)) (sym (pds-length (c .before .before .before .before .before .before .before .before .before .before .before .before .before .before .before .before .before .before .before .before .before .args .pts) (c .before .before .before .before .before .before .before .before .before .before .before .before .before .before .before .before .before .before .before .before .before .args .dts) (c .before .before .before .before .before .before .before .before .before .before .before .before .before .before .before .before .before .before .before .before .before .args .pds) (now (c .before .before .before .before .before .before .before .before .before .before .before .before .before .before .before .before .before .before .before .before .before .args .entries)))) (c .before .before .before .before .before .before .before .before .before .before .before .before .before .before .put-head .ensures) (pds-body (c .before .before .before .before .before .before .before .before .before .before .before .before .before .before .before .before .before .before .before .before .before .args .pts) (c .before .before .before .before .before .before .before .before .before .before .before .before .before .before .before .before .before .before .before .before .before .args .dts) (c .before .before .before .before .before .before .before .before .before .before .before .before .before .before .before .before .before .before .before .before .before .args .pds) (now (c .before .before .before .before .before .before .before .before .before .before .before .before .before .before .before .before .before .before .before .before .before .args .entries)) (c .before .before .before .before .before .before .before .before .before .before .before .before .before .before .put-head .last .0) (c .before .before .before .before .before .before .before .before .before .before .put-u8 .ensures) (c .before .before .before .before .before .before .put-u82 .ensures) (c .before .before .put-entries .ensures)))
+returns-3 c = write-all (pdsSegment (c .before .before .before .before .before .before .before .before .before .before .before .before .before .before .before .before .before .before .before .before .before .args .pts) (c .before .before .before .before .before .before .before .before .before .before .before .before .before .before .before .before .before .before .before .before .before .args .dts) (c .before .before .before .before .before .before .before .before .before .before .before .before .before .before .before .before .before .before .before .before .before .args .pds) (now (c .before .before .before .before .before .before .before .before .before .before .before .before .before .before .before .before .before .before .before .before .before .args .entries))) (now (c .before .before .before .before .before .before .before .before .before .before .before .before .before .before .before .before .before .before .before .before .before .args .out)) (pds-writable (c .before .before .before .before .before .before .before .before .before .before .before .before .before .before .before .before .before .before .before .before .before .args .pts) (c .before .before .before .before .before .before .before .before .before .before .before .before .before .before .before .before .before .before .before .before .before .args .dts) (c .before .before .before .before .before .before .before .before .before .before .before .before .before .before .before .before .before .before .before .before .before .args .pds) (now (c .before .before .before .before .before .before .before .before .before .before .before .before .before .before .before .before .before .before .before .before .before .args .entries)) (c .before .before .before .before .before .before .before .before .before .before .before .before .before .before .before .before .before .before .before .before .before .fits .pts .fits) (c .before .before .before .before .before .before .before .before .before .before .before .before .before .before .before .before .before .before .before .before .before .fits .dts .fits) (id-byte (c .before .before .before .before .before .before .before .before .before .before .before .before .before .before .before .before .before .before .before .before .before) .fits) (version-byte (c .before .before .before .before .before .before .before .before .before .before .before .before .before .before .before .before .before .before .before .before .before) .fits) (c .before .before .before .before .before .before .before .before .before .before .before .before .before .before .before .before .before .before .before .if1 .left) (sym (c .before .before .before .before .before .before .before .before .before .before .before .before .before .before .before .before .before .before .entries-fit .ensures) ∙ c .before .before .before .before .before .before .before .before .before .before .before .before .before .before .before .before .before .if2 .taken)) (omega (arith, encode-length (pdsSegment (c .before .before .before .before .before .before .before .before .before .before .before .before .before .before .before .before .before .before .before .before .before .args .pts) (c .before .before .before .before .before .before .before .before .before .before .before .before .before .before .before .before .before .before .before .before .before .args .dts) (c .before .before .before .before .before .before .before .before .before .before .before .before .before .before .before .before .before .before .before .before .before .args .pds) (now (c .before .before .before .before .before .before .before .before .before .before .before .before .before .before .before .before .before .before .before .before .before .args .entries))), pds-length (c .before .before .before .before .before .before .before .before .before .before .before .before .before .before .before .before .before .before .before .before .before .args .pts) (c .before .before .before .before .before .before .before .before .before .before .before .before .before .before .before .before .before .before .before .before .before .args .dts) (c .before .before .before .before .before .before .before .before .before .before .before .before .before .before .before .before .before .before .before .before .before .args .pds) (now (c .before .before .before .before .before .before .before .before .before .before .before .before .before .before .before .before .before .before .before .before .before .args .entries)), c .before .before .before .before .before .before .before .before .before .before .before .before .before .before .before .before .if3 .left)) (omega (arith, encode-length (pdsSegment (c .before .before .before .before .before .before .before .before .before .before .before .before .before .before .before .before .before .before .before .before .before .args .pts) (c .before .before .before .before .before .before .before .before .before .before .before .before .before .before .before .before .before .before .before .before .before .args .dts) (c .before .before .before .before .before .before .before .before .before .before .before .before .before .before .before .before .before .before .before .before .before .args .pds) (now (c .before .before .before .before .before .before .before .before .before .before .before .before .before .before .before .before .before .before .before .before .before .args .entries))), pds-length (c .before .before .before .before .before .before .before .before .before .before .before .before .before .before .before .before .before .before .before .before .before .args .pts) (c .before .before .before .before .before .before .before .before .before .before .before .before .before .before .before .before .before .before .before .before .before .args .dts) (c .before .before .before .before .before .before .before .before .before .before .before .before .before .before .before .before .before .before .before .before .before .args .pds) (now (c .before .before .before .before .before .before .before .before .before .before .before .before .before .before .before .before .before .before .before .before .before .args .entries)))) (encoded (pdsSegment (c .before .before .before .before .before .before .before .before .before .before .before .before .before .before .before .before .before .before .before .before .before .args .pts) (c .before .before .before .before .before .before .before .before .before .before .before .before .before .before .before .before .before .before .before .before .before .args .dts) (c .before .before .before .before .before .before .before .before .before .before .before .before .before .before .before .before .before .before .before .before .before .args .pds) (now (c .before .before .before .before .before .before .before .before .before .before .before .before .before .before .before .before .before .before .before .before .before .args .entries))) (now (c .before .before .before .before .before .before .before .before .before .before .before .before .before .before .before .before .before .before .before .before .before .args .out)) (sym (pds-length (c .before .before .before .before .before .before .before .before .before .before .before .before .before .before .before .before .before .before .before .before .before .args .pts) (c .before .before .before .before .before .before .before .before .before .before .before .before .before .before .before .before .before .before .before .before .before .args .dts) (c .before .before .before .before .before .before .before .before .before .before .before .before .before .before .before .before .before .before .before .before .before .args .pds) (now (c .before .before .before .before .before .before .before .before .before .before .before .before .before .before .before .before .before .before .before .before .before .args .entries)))) (c .before .before .before .before .before .before .before .before .before .before .before .before .before .before .put-head .ensures) (pds-body (c .before .before .before .before .before .before .before .before .before .before .before .before .before .before .before .before .before .before .before .before .before .args .pts) (c .before .before .before .before .before .before .before .before .before .before .before .before .before .before .before .before .before .before .before .before .before .args .dts) (c .before .before .before .before .before .before .before .before .before .before .before .before .before .before .before .before .before .before .before .before .before .args .pds) (now (c .before .before .before .before .before .before .before .before .before .before .before .before .before .before .before .before .before .before .before .before .before .args .entries)) (c .before .before .before .before .before .before .before .before .before .before .before .before .before .before .put-head .last .0) (c .before .before .before .before .before .before .before .before .before .before .put-u8 .ensures) (c .before .before .before .before .before .before .put-u82 .ensures) (c .before .before .put-entries .ensures)))
 
 returns-4 : tie.Need-returns-4
 returns-4 c = write-35 (pdsSegment (c .before .before .before .before .args .pts) (c .before .before .before .before .args .dts) (c .before .before .before .before .args .pds) (now (c .before .before .before .before .args .entries))) (now (c .before .before .before .before .args .out)) (pds-unfit (c .before .before .before .before .args .pts) (c .before .before .before .before .args .dts) (c .before .before .before .before .args .pds) (now (c .before .before .before .before .args .entries)) (sym (c .before .entries-fit .ensures) ∙ c .if2 .left))

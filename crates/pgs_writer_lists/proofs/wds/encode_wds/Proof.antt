@@ -1,7 +1,8 @@
 -- `encode_wds` tests the records, then the room, then stores head, count and windows.
 -- Assumes nothing.
 use Rattle.pgs_writer_base.proofs.WriteKinds.{wds-records, wds-length, wds-many, wds-unfit, wds-writable, wds-body}
-use Rattle.pgs_writer_base.proofs.WriteLaws.{encode-size, encoded, write-35, write-34, write-all}
+use Rattle.pgs_encoding.proofs.SegmentBytes.{encode-length}
+use Rattle.pgs_writer_base.proofs.WriteLaws.{encoded, write-35, write-34, write-all}
 use Rattle.pgs_writer_lists.proofs.wds.encode_wds.Statement.{statement}
 use Rattle.pgs_writer_base.specs.Kinds.{wdsSegment}
 use borrow.Author.Needs.{needs}
@@ -26,7 +27,7 @@ add-total : tie.Need-add-total
 add-total c = search needs
 
 returns-2 : tie.Need-returns-2
-returns-2 c = write-34 (wdsSegment (c .before .before .before .before .before .args .pts) (c .before .before .before .before .before .args .dts) (now (c .before .before .before .before .before .args .windows))) (now (c .before .before .before .before .before .args .out)) (wds-writable (c .before .before .before .before .before .args .pts) (c .before .before .before .before .before .args .dts) (now (c .before .before .before .before .before .args .windows)) (c .before .before .before .before .before .fits .pts .fits) (c .before .before .before .before .before .fits .dts .fits) (c .before .before .before .if1 .left) (sym (c .before .before .windows-fit .ensures) ∙ c .before .if2 .taken)) (omega (arith, (encode-size (wdsSegment (c .before .before .before .before .before .args .pts) (c .before .before .before .before .before .args .dts) (now (c .before .before .before .before .before .args .windows)))), (wds-length (c .before .before .before .before .before .args .pts) (c .before .before .before .before .before .args .dts) (now (c .before .before .before .before .before .args .windows))), c .if3 .taken))
+returns-2 c = write-34 (wdsSegment (c .before .before .before .before .before .args .pts) (c .before .before .before .before .before .args .dts) (now (c .before .before .before .before .before .args .windows))) (now (c .before .before .before .before .before .args .out)) (wds-writable (c .before .before .before .before .before .args .pts) (c .before .before .before .before .before .args .dts) (now (c .before .before .before .before .before .args .windows)) (c .before .before .before .before .before .fits .pts .fits) (c .before .before .before .before .before .fits .dts .fits) (c .before .before .before .if1 .left) (sym (c .before .before .windows-fit .ensures) ∙ c .before .if2 .taken)) (omega (arith, (encode-length (wdsSegment (c .before .before .before .before .before .args .pts) (c .before .before .before .before .before .args .dts) (now (c .before .before .before .before .before .args .windows)))), (wds-length (c .before .before .before .before .before .args .pts) (c .before .before .before .before .before .args .dts) (now (c .before .before .before .before .before .args .windows))), c .if3 .taken))
 
 cast-put-head : tie.Need-cast-put-head
 cast-put-head c = search needs
@@ -47,7 +48,7 @@ same-length : tie.Need-same-length
 same-length c = search needs
 
 returns-3 : tie.Need-returns-3
-returns-3 c = let f = wdsSegment (c .before .before .before .before .before .before .before .before .before .before .before .before .before .before .before .before .before .args .pts) (c .before .before .before .before .before .before .before .before .before .before .before .before .before .before .before .before .before .args .dts) (now (c .before .before .before .before .before .before .before .before .before .before .before .before .before .before .before .before .before .args .windows)) in let l = wds-length (c .before .before .before .before .before .before .before .before .before .before .before .before .before .before .before .before .before .args .pts) (c .before .before .before .before .before .before .before .before .before .before .before .before .before .before .before .before .before .args .dts) (now (c .before .before .before .before .before .before .before .before .before .before .before .before .before .before .before .before .before .args .windows)) in write-all f (now (c .before .before .before .before .before .before .before .before .before .before .before .before .before .before .before .before .before .args .out)) (wds-writable (c .before .before .before .before .before .before .before .before .before .before .before .before .before .before .before .before .before .args .pts) (c .before .before .before .before .before .before .before .before .before .before .before .before .before .before .before .before .before .args .dts) (now (c .before .before .before .before .before .before .before .before .before .before .before .before .before .before .before .before .before .args .windows)) (c .before .before .before .before .before .before .before .before .before .before .before .before .before .before .before .before .before .fits .pts .fits) (c .before .before .before .before .before .before .before .before .before .before .before .before .before .before .before .before .before .fits .dts .fits) (c .before .before .before .before .before .before .before .before .before .before .before .before .before .before .before .if1 .left) (sym (c .before .before .before .before .before .before .before .before .before .before .before .before .before .before .windows-fit .ensures) ∙ c .before .before .before .before .before .before .before .before .before .before .before .before .before .if2 .taken)) (omega (arith, (encode-size (wdsSegment (c .before .before .before .before .before .before .before .before .before .before .before .before .before .before .before .before .before .args .pts) (c .before .before .before .before .before .before .before .before .before .before .before .before .before .before .before .before .before .args .dts) (now (c .before .before .before .before .before .before .before .before .before .before .before .before .before .before .before .before .before .args .windows)))), (wds-length (c .before .before .before .before .before .before .before .before .before .before .before .before .before .before .before .before .before .args .pts) (c .before .before .before .before .before .before .before .before .before .before .before .before .before .before .before .before .before .args .dts) (now (c .before .before .before .before .before .before .before .before .before .before .before .before .before .before .before .before .before .args .windows))), c .before .before .before .before .before .before .before .before .before .before .before .before .if3 .left)) (omega (arith, (encode-size (wdsSegment (c .before .before .before .before .before .before .before .before .before .before .before .before .before .before .before .before .before .args .pts) (c .before .before .before .before .before .before .before .before .before .before .before .before .before .before .before .before .before .args .dts) (now (c .before .before .before .before .before .before .before .before .before .before .before .before .before .before .before .before .before .args .windows)))), (wds-length (c .before .before .before .before .before .before .before .before .before .before .before .before .before .before .before .before .before .args .pts) (c .before .before .before .before .before .before .before .before .before .before .before .before .before .before .before .before .before .args .dts) (now (c .before .before .before .before .before .before .before .before .before .before .before .before .before .before .before .before .before .args .windows))))) (encoded f (now (c .before .before .before .before .before .before .before .before .before .before .before .before .before .before .before .before .before .args .out)) (sym l) (c .before .before .before .before .before .before .before .before .before .before .put-head .ensures) (wds-body (c .before .before .before .before .before .before .before .before .before .before .before .before .before .before .before .before .before .args .pts) (c .before .before .before .before .before .before .before .before .before .before .before .before .before .before .before .before .before .args .dts) (now (c .before .before .before .before .before .before .before .before .before .before .before .before .before .before .before .before .before .args .windows)) (c .before .before .before .before .before .before .before .before .before .before .put-head .last .0) (c .before .before .before .before .before .before .put-u8 .ensures) (c .before .before .put-windows .ensures)))
+returns-3 c = let f = wdsSegment (c .before .before .before .before .before .before .before .before .before .before .before .before .before .before .before .before .before .args .pts) (c .before .before .before .before .before .before .before .before .before .before .before .before .before .before .before .before .before .args .dts) (now (c .before .before .before .before .before .before .before .before .before .before .before .before .before .before .before .before .before .args .windows)) in let l = wds-length (c .before .before .before .before .before .before .before .before .before .before .before .before .before .before .before .before .before .args .pts) (c .before .before .before .before .before .before .before .before .before .before .before .before .before .before .before .before .before .args .dts) (now (c .before .before .before .before .before .before .before .before .before .before .before .before .before .before .before .before .before .args .windows)) in write-all f (now (c .before .before .before .before .before .before .before .before .before .before .before .before .before .before .before .before .before .args .out)) (wds-writable (c .before .before .before .before .before .before .before .before .before .before .before .before .before .before .before .before .before .args .pts) (c .before .before .before .before .before .before .before .before .before .before .before .before .before .before .before .before .before .args .dts) (now (c .before .before .before .before .before .before .before .before .before .before .before .before .before .before .before .before .before .args .windows)) (c .before .before .before .before .before .before .before .before .before .before .before .before .before .before .before .before .before .fits .pts .fits) (c .before .before .before .before .before .before .before .before .before .before .before .before .before .before .before .before .before .fits .dts .fits) (c .before .before .before .before .before .before .before .before .before .before .before .before .before .before .before .if1 .left) (sym (c .before .before .before .before .before .before .before .before .before .before .before .before .before .before .windows-fit .ensures) ∙ c .before .before .before .before .before .before .before .before .before .before .before .before .before .if2 .taken)) (omega (arith, (encode-length (wdsSegment (c .before .before .before .before .before .before .before .before .before .before .before .before .before .before .before .before .before .args .pts) (c .before .before .before .before .before .before .before .before .before .before .before .before .before .before .before .before .before .args .dts) (now (c .before .before .before .before .before .before .before .before .before .before .before .before .before .before .before .before .before .args .windows)))), (wds-length (c .before .before .before .before .before .before .before .before .before .before .before .before .before .before .before .before .before .args .pts) (c .before .before .before .before .before .before .before .before .before .before .before .before .before .before .before .before .before .args .dts) (now (c .before .before .before .before .before .before .before .before .before .before .before .before .before .before .before .before .before .args .windows))), c .before .before .before .before .before .before .before .before .before .before .before .before .if3 .left)) (omega (arith, (encode-length (wdsSegment (c .before .before .before .before .before .before .before .before .before .before .before .before .before .before .before .before .before .args .pts) (c .before .before .before .before .before .before .before .before .before .before .before .before .before .before .before .before .before .args .dts) (now (c .before .before .before .before .before .before .before .before .before .before .before .before .before .before .before .before .before .args .windows)))), (wds-length (c .before .before .before .before .before .before .before .before .before .before .before .before .before .before .before .before .before .args .pts) (c .before .before .before .before .before .before .before .before .before .before .before .before .before .before .before .before .before .args .dts) (now (c .before .before .before .before .before .before .before .before .before .before .before .before .before .before .before .before .before .args .windows))))) (encoded f (now (c .before .before .before .before .before .before .before .before .before .before .before .before .before .before .before .before .before .args .out)) (sym l) (c .before .before .before .before .before .before .before .before .before .before .put-head .ensures) (wds-body (c .before .before .before .before .before .before .before .before .before .before .before .before .before .before .before .before .before .args .pts) (c .before .before .before .before .before .before .before .before .before .before .before .before .before .before .before .before .before .args .dts) (now (c .before .before .before .before .before .before .before .before .before .before .before .before .before .before .before .before .before .args .windows)) (c .before .before .before .before .before .before .before .before .before .before .put-head .last .0) (c .before .before .before .before .before .before .put-u8 .ensures) (c .before .before .put-windows .ensures)))
 
 returns-4 : tie.Need-returns-4
 returns-4 c = write-35 (wdsSegment (c .before .before .before .before .args .pts) (c .before .before .before .before .args .dts) (now (c .before .before .before .before .args .windows))) (now (c .before .before .before .before .args .out)) (wds-unfit (c .before .before .before .before .args .pts) (c .before .before .before .before .args .dts) (now (c .before .before .before .before .args .windows)) (c .before .before .if1 .left) (sym (c .before .windows-fit .ensures) ∙ c .if2 .left))

@@ -2,7 +2,8 @@
 -- Assumes nothing.
 use Prim.Native.Nat.{ℕ, _+_}
 use Rattle.pgs_writer_base.proofs.PlacementLaws.{PcsFits, rows-most, pcs-length, pcs-many, pcs-unfit, pcs-writable, pcs-body}
-use Rattle.pgs_writer_base.proofs.WriteLaws.{encode-size, encoded, write-35, write-34, write-all}
+use Rattle.pgs_encoding.proofs.SegmentBytes.{encode-length}
+use Rattle.pgs_writer_base.proofs.WriteLaws.{encoded, write-35, write-34, write-all}
 use Rattle.pgs_writer_pcs.proofs.pcs.encode_pcs.Statement.{statement}
 use Rattle.pgs_writer_base.specs.Kinds.{pcsSegment}
 use borrow.Author.Needs.{needs}
@@ -31,7 +32,7 @@ add-total : tie.Need-add-total
 add-total c = omega (arith, rows-most (now (c .before .before .before .before .before .args .placements)), c .placements-size .ensures, c .before .before .before .if1 .left)
 
 returns-2 : tie.Need-returns-2
-returns-2 c = let f = pcsSegment (c .before .before .before .before .before .before .args .pts) (c .before .before .before .before .before .before .args .dts) (c .before .before .before .before .before .before .args .pcs) (now (c .before .before .before .before .before .before .args .placements)) in write-34 f (now (c .before .before .before .before .before .before .args .out)) (pcs-writable (c .before .before .before .before .before .before .args .pts) (c .before .before .before .before .before .before .args .dts) (c .before .before .before .before .before .before .args .pcs) (now (c .before .before .before .before .before .before .args .placements)) (c .before .before .before .before .before .before .fits .pts .fits) (c .before .before .before .before .before .before .fits .dts .fits) (numbers (c .before .before .before .before .before .before)) (c .before .before .before .before .if1 .left) (sym (c .before .before .before .placements-fit .ensures) ∙ c .before .before .if2 .taken)) (omega (arith, encode-size f, pcs-length (c .before .before .before .before .before .before .args .pts) (c .before .before .before .before .before .before .args .dts) (c .before .before .before .before .before .before .args .pcs) (now (c .before .before .before .before .before .before .args .placements)), c .before .placements-size .ensures, c .if3 .taken))
+returns-2 c = let f = pcsSegment (c .before .before .before .before .before .before .args .pts) (c .before .before .before .before .before .before .args .dts) (c .before .before .before .before .before .before .args .pcs) (now (c .before .before .before .before .before .before .args .placements)) in write-34 f (now (c .before .before .before .before .before .before .args .out)) (pcs-writable (c .before .before .before .before .before .before .args .pts) (c .before .before .before .before .before .before .args .dts) (c .before .before .before .before .before .before .args .pcs) (now (c .before .before .before .before .before .before .args .placements)) (c .before .before .before .before .before .before .fits .pts .fits) (c .before .before .before .before .before .before .fits .dts .fits) (numbers (c .before .before .before .before .before .before)) (c .before .before .before .before .if1 .left) (sym (c .before .before .before .placements-fit .ensures) ∙ c .before .before .if2 .taken)) (omega (arith, encode-length f, pcs-length (c .before .before .before .before .before .before .args .pts) (c .before .before .before .before .before .before .args .dts) (c .before .before .before .before .before .before .args .pcs) (now (c .before .before .before .before .before .before .args .placements)), c .before .placements-size .ensures, c .if3 .taken))
 
 cast-put-head : tie.Need-cast-put-head
 cast-put-head c = omega (arith, rows-most (now (c .before .before .before .before .before .before .before .args .placements)), c .before .before .placements-size .ensures, c .before .before .before .before .before .if1 .left)
@@ -52,7 +53,7 @@ same-length : tie.Need-same-length
 same-length c = search needs
 
 returns-3 : tie.Need-returns-3
-returns-3 c = let f = pcsSegment (c .before .before .before .before .before .before .before .before .before .before .before .before .before .before .before .before .before .before .args .pts) (c .before .before .before .before .before .before .before .before .before .before .before .before .before .before .before .before .before .before .args .dts) (c .before .before .before .before .before .before .before .before .before .before .before .before .before .before .before .before .before .before .args .pcs) (now (c .before .before .before .before .before .before .before .before .before .before .before .before .before .before .before .before .before .before .args .placements)) in write-all f (now (c .before .before .before .before .before .before .before .before .before .before .before .before .before .before .before .before .before .before .args .out)) (pcs-writable (c .before .before .before .before .before .before .before .before .before .before .before .before .before .before .before .before .before .before .args .pts) (c .before .before .before .before .before .before .before .before .before .before .before .before .before .before .before .before .before .before .args .dts) (c .before .before .before .before .before .before .before .before .before .before .before .before .before .before .before .before .before .before .args .pcs) (now (c .before .before .before .before .before .before .before .before .before .before .before .before .before .before .before .before .before .before .args .placements)) (c .before .before .before .before .before .before .before .before .before .before .before .before .before .before .before .before .before .before .fits .pts .fits) (c .before .before .before .before .before .before .before .before .before .before .before .before .before .before .before .before .before .before .fits .dts .fits) (numbers (c .before .before .before .before .before .before .before .before .before .before .before .before .before .before .before .before .before .before)) (c .before .before .before .before .before .before .before .before .before .before .before .before .before .before .before .before .if1 .left) (sym (c .before .before .before .before .before .before .before .before .before .before .before .before .before .before .before .placements-fit .ensures) ∙ c .before .before .before .before .before .before .before .before .before .before .before .before .before .before .if2 .taken)) (omega (arith, encode-size f, pcs-length (c .before .before .before .before .before .before .before .before .before .before .before .before .before .before .before .before .before .before .args .pts) (c .before .before .before .before .before .before .before .before .before .before .before .before .before .before .before .before .before .before .args .dts) (c .before .before .before .before .before .before .before .before .before .before .before .before .before .before .before .before .before .before .args .pcs) (now (c .before .before .before .before .before .before .before .before .before .before .before .before .before .before .before .before .before .before .args .placements)), c .before .before .before .before .before .before .before .before .before .before .before .before .before .placements-size .ensures, c .before .before .before .before .before .before .before .before .before .before .before .before .if3 .left)) (omega (arith, encode-size f, pcs-length (c .before .before .before .before .before .before .before .before .before .before .before .before .before .before .before .before .before .before .args .pts) (c .before .before .before .before .before .before .before .before .before .before .before .before .before .before .before .before .before .before .args .dts) (c .before .before .before .before .before .before .before .before .before .before .before .before .before .before .before .before .before .before .args .pcs) (now (c .before .before .before .before .before .before .before .before .before .before .before .before .before .before .before .before .before .before .args .placements)), c .before .before .before .before .before .before .before .before .before .before .before .before .before .placements-size .ensures)) (encoded f (now (c .before .before .before .before .before .before .before .before .before .before .before .before .before .before .before .before .before .before .args .out)) (ap (λ (k : ℕ). 11 + k) (c .before .before .before .before .before .before .before .before .before .before .before .before .before .placements-size .ensures) ∙ sym (pcs-length (c .before .before .before .before .before .before .before .before .before .before .before .before .before .before .before .before .before .before .args .pts) (c .before .before .before .before .before .before .before .before .before .before .before .before .before .before .before .before .before .before .args .dts) (c .before .before .before .before .before .before .before .before .before .before .before .before .before .before .before .before .before .before .args .pcs) (now (c .before .before .before .before .before .before .before .before .before .before .before .before .before .before .before .before .before .before .args .placements)))) (c .before .before .before .before .before .before .before .before .before .before .put-head .ensures) (pcs-body (c .before .before .before .before .before .before .before .before .before .before .before .before .before .before .before .before .before .before .args .pts) (c .before .before .before .before .before .before .before .before .before .before .before .before .before .before .before .before .before .before .args .dts) (c .before .before .before .before .before .before .before .before .before .before .before .before .before .before .before .before .before .before .args .pcs) (now (c .before .before .before .before .before .before .before .before .before .before .before .before .before .before .before .before .before .before .args .placements)) (c .before .before .before .before .before .before .before .before .before .before .put-head .last .0) (c .before .before .before .before .before .before .put-pcs .ensures) (c .before .before .put-placements .ensures)))
+returns-3 c = let f = pcsSegment (c .before .before .before .before .before .before .before .before .before .before .before .before .before .before .before .before .before .before .args .pts) (c .before .before .before .before .before .before .before .before .before .before .before .before .before .before .before .before .before .before .args .dts) (c .before .before .before .before .before .before .before .before .before .before .before .before .before .before .before .before .before .before .args .pcs) (now (c .before .before .before .before .before .before .before .before .before .before .before .before .before .before .before .before .before .before .args .placements)) in write-all f (now (c .before .before .before .before .before .before .before .before .before .before .before .before .before .before .before .before .before .before .args .out)) (pcs-writable (c .before .before .before .before .before .before .before .before .before .before .before .before .before .before .before .before .before .before .args .pts) (c .before .before .before .before .before .before .before .before .before .before .before .before .before .before .before .before .before .before .args .dts) (c .before .before .before .before .before .before .before .before .before .before .before .before .before .before .before .before .before .before .args .pcs) (now (c .before .before .before .before .before .before .before .before .before .before .before .before .before .before .before .before .before .before .args .placements)) (c .before .before .before .before .before .before .before .before .before .before .before .before .before .before .before .before .before .before .fits .pts .fits) (c .before .before .before .before .before .before .before .before .before .before .before .before .before .before .before .before .before .before .fits .dts .fits) (numbers (c .before .before .before .before .before .before .before .before .before .before .before .before .before .before .before .before .before .before)) (c .before .before .before .before .before .before .before .before .before .before .before .before .before .before .before .before .if1 .left) (sym (c .before .before .before .before .before .before .before .before .before .before .before .before .before .before .before .placements-fit .ensures) ∙ c .before .before .before .before .before .before .before .before .before .before .before .before .before .before .if2 .taken)) (omega (arith, encode-length f, pcs-length (c .before .before .before .before .before .before .before .before .before .before .before .before .before .before .before .before .before .before .args .pts) (c .before .before .before .before .before .before .before .before .before .before .before .before .before .before .before .before .before .before .args .dts) (c .before .before .before .before .before .before .before .before .before .before .before .before .before .before .before .before .before .before .args .pcs) (now (c .before .before .before .before .before .before .before .before .before .before .before .before .before .before .before .before .before .before .args .placements)), c .before .before .before .before .before .before .before .before .before .before .before .before .before .placements-size .ensures, c .before .before .before .before .before .before .before .before .before .before .before .before .if3 .left)) (omega (arith, encode-length f, pcs-length (c .before .before .before .before .before .before .before .before .before .before .before .before .before .before .before .before .before .before .args .pts) (c .before .before .before .before .before .before .before .before .before .before .before .before .before .before .before .before .before .before .args .dts) (c .before .before .before .before .before .before .before .before .before .before .before .before .before .before .before .before .before .before .args .pcs) (now (c .before .before .before .before .before .before .before .before .before .before .before .before .before .before .before .before .before .before .args .placements)), c .before .before .before .before .before .before .before .before .before .before .before .before .before .placements-size .ensures)) (encoded f (now (c .before .before .before .before .before .before .before .before .before .before .before .before .before .before .before .before .before .before .args .out)) (ap (λ (k : ℕ). 11 + k) (c .before .before .before .before .before .before .before .before .before .before .before .before .before .placements-size .ensures) ∙ sym (pcs-length (c .before .before .before .before .before .before .before .before .before .before .before .before .before .before .before .before .before .before .args .pts) (c .before .before .before .before .before .before .before .before .before .before .before .before .before .before .before .before .before .before .args .dts) (c .before .before .before .before .before .before .before .before .before .before .before .before .before .before .before .before .before .before .args .pcs) (now (c .before .before .before .before .before .before .before .before .before .before .before .before .before .before .before .before .before .before .args .placements)))) (c .before .before .before .before .before .before .before .before .before .before .put-head .ensures) (pcs-body (c .before .before .before .before .before .before .before .before .before .before .before .before .before .before .before .before .before .before .args .pts) (c .before .before .before .before .before .before .before .before .before .before .before .before .before .before .before .before .before .before .args .dts) (c .before .before .before .before .before .before .before .before .before .before .before .before .before .before .before .before .before .before .args .pcs) (now (c .before .before .before .before .before .before .before .before .before .before .before .before .before .before .before .before .before .before .args .placements)) (c .before .before .before .before .before .before .before .before .before .before .put-head .last .0) (c .before .before .before .before .before .before .put-pcs .ensures) (c .before .before .put-placements .ensures)))
 
 returns-4 : tie.Need-returns-4
 returns-4 c = write-35 (pcsSegment (c .before .before .before .before .args .pts) (c .before .before .before .before .args .dts) (c .before .before .before .before .args .pcs) (now (c .before .before .before .before .args .placements))) (now (c .before .before .before .before .args .out)) (pcs-unfit (c .before .before .before .before .args .pts) (c .before .before .before .before .args .dts) (c .before .before .before .before .args .pcs) (now (c .before .before .before .before .args .placements)) (sym (c .before .placements-fit .ensures) ∙ c .if2 .left))
