@@ -39,6 +39,11 @@ not-both e q = omega (arith, ap refusals (sym e ∙ q))
     refusals accepted = 0
     refusals (refused j) = 1
 
+-- and does one of the two
+pub not-refused : (v : Verdict) → ((k : ℕ) → v ≡ refused k → ⊥) → v ≡ accepted
+not-refused accepted h = refl
+not-refused (refused k) h = absurd (h k refl)
+
 -- a verdict of two tests that accepts: both hold
 pub first-holds : (k : ℕ) (t : Bool) (v : Verdict) → andThen (unless k t) v ≡ accepted → t ≡ true
 first-holds k true v e = refl

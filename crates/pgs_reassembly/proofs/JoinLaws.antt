@@ -7,7 +7,8 @@ use native.Mathlib.Omega.{arith}
 use borrow.Author.Tests.{eq-eqb, ne-eqb}
 use lib.ListN.{length, take, drop, getD, length-append, length-take, length-drop, drop-of-length-le}
 use lib.Seq.{length-take-le, take-length}
-use Rattle.pgs_base.specs.Outcome.{Verdict, accepted, refused, laid}
+use Rattle.pgs_base.proofs.Outcomes.{not-refused}
+use Rattle.pgs_base.specs.Outcome.{accepted, laid}
 use Rattle.pgs_base.proofs.Front.{Front, begins, parted, filled}
 use Rattle.pgs_segment.specs.Header.{headerFields}
 use Rattle.pgs_views.specs.Kinds.{typeOf}
@@ -63,12 +64,9 @@ module _ (s : List ℕ) (from id : ℕ) where
 
       -- a segment stands here, which is no END
       pub joins-here : stepVerdict (drop at s) ≡ accepted
-      joins-here = go (stepVerdict (drop at s)) refl
-        where
-          go : (v : Verdict) → stepVerdict (drop at s) ≡ v → stepVerdict (drop at s) ≡ accepted
-          go accepted e = e
-          go (refused j) e =
-              absurd (some-left (ap (λ (x : Reading). fragmentsFrom at (throughEnd (x .pieces))) (read-stops (drop at s) e)))
+      joins-here =
+          not-refused (stepVerdict (drop at s))
+          (λ j e. some-left (ap (λ (x : Reading). fragmentsFrom at (throughEnd (x .pieces))) (read-stops (drop at s) e)))
 
       no-end : isEnd (segmentType (drop at s)) ≡ false
       no-end = go (isEnd (segmentType (drop at s))) refl

@@ -14,7 +14,7 @@ use Rattle.pgs_segment.specs.OneSegment.{segmentType, usedBy}
 use Rattle.pgs_stream.specs.Stream.{Reading, stepVerdict}
 use Rattle.pgs_stream.proofs.StreamLaws.{read-stops}
 use Rattle.pgs_segment.specs.declared.header.SegmentHeader.{SegmentHeader}
-use Rattle.pgs_base.proofs.Outcomes.{gave, gave-value, turned-down, delivers-short, delivers-all}
+use Rattle.pgs_base.proofs.Outcomes.{gave, gave-value, turned-down, delivers-short, delivers-all, not-refused}
 use Rattle.pgs_set.proofs.Choices.{pick-first}
 use Rattle.pgs_reassembly.proofs.FragmentLaws.{none-left, left-same, left-next}
 use Rattle.pgs_reassembly.proofs.ListingLaws.{rows-verdict, rows-joined, rows-records, record-count}
@@ -41,11 +41,9 @@ AllBegin s (c ∷ cs) = Begins s c × AllBegin s cs
 -- where there is a segment, it is accepted, and the others stand behind it
 module _ (s : List ℕ) (x : List ℕ) (xs : List (List ℕ)) (at : ℕ) (e : piecesAt s at ≡ x ∷ xs) where
   step-of-piece : stepVerdict (drop at s) ≡ accepted
-  step-of-piece = cases (stepVerdict (drop at s)) refl
-    where
-      cases : (v : Verdict) → stepVerdict (drop at s) ≡ v → stepVerdict (drop at s) ≡ accepted
-      cases accepted q = q
-      cases (refused k) q = absurd (omega (arith, sym (ap length e) ∙ ap (λ (r : Reading). length (r .pieces)) (read-stops (drop at s) q)))
+  step-of-piece =
+      not-refused (stepVerdict (drop at s))
+      (λ k q. omega (arith, sym (ap length e) ∙ ap (λ (r : Reading). length (r .pieces)) (read-stops (drop at s) q)))
 
   rest-behind : piecesAt s (at + usedBy (drop at s)) ≡ xs
   rest-behind = let p = pieces-here s at step-of-piece in cc

@@ -13,7 +13,8 @@ use Rattle.pgs_bitmap_check.specs.Bitmap.{readingOf}
 use Rattle.pgs_pcs.specs.PcsBody.{placementRow}
 use Rattle.pgs_pcs.specs.declared.pcs.CompositionObject.{CompositionObject}
 use Rattle.pgs_reassembly.specs.Objects.{Chain, objectId, widthOf, heightOf, dataOf}
-use Rattle.pgs_reassembly.specs.Reassembly.{copied, copiedData, joinedData, objectRow, rowsFrom, shownBy}
+use Rattle.pgs_reassembly.specs.Reassembly.{copiedData, joinedData, objectRow, rowsFrom, shownBy}
+use Rattle.pgs_reassembly.proofs.ListingLaws.{row-copied}
 use Rattle.pgs_reassembly.proofs.Lists.{drop-next}
 use Rattle.pgs_rendering.specs.Images.{areaOf, bitmapsVerdict, hasObject, placementsVerdict}
 use Rattle.pgs_rendering.specs.Rows.{rowArea, rowJoined, rowsJoined, rowsNeed, rowsReading, hasRow, allPresent}
@@ -160,23 +161,13 @@ pub need-of : (at : ℕ) (cs : List Chain) → rowsNeed (rowsFrom at cs) ≡ len
 need-of at [] = refl
 need-of at (c ∷ cs) =
     let ih = need-of (at + length (copiedData c)) cs in
-    let one = size (copied c) in
-    omega (arith, ih, one, length-append (copiedData c) (joinedData cs))
-  where
-    size : (b : Bool) → pick (eqb (pick b 1 0) 0) 0 (length (dataOf c)) ≡ length (pick b (dataOf c) [])
-    size true = refl
-    size false = refl
+    omega (arith, ih, row-copied c, length-append (copiedData c) (joinedData cs))
 
 pub total-of : (at : ℕ) (cs : List Chain) → rowsJoined (rowsFrom at cs) ≡ length (joinedData cs)
 total-of at [] = refl
 total-of at (c ∷ cs) =
     let ih = total-of (at + length (copiedData c)) cs in
-    let one = size (copied c) in
-    omega (arith, ih, one, length-append (copiedData c) (joinedData cs))
-  where
-    size : (b : Bool) → pick (eqb (pick b 1 0) 0) 0 (length (dataOf c)) ≡ length (pick b (dataOf c) [])
-    size true = refl
-    size false = refl
+    omega (arith, ih, row-copied c, length-append (copiedData c) (joinedData cs))
 
 pub reading-of : (s scratch : List ℕ) (at : ℕ) (cs : List Chain) → map (shownBy s scratch) (rowsFrom at cs) ≡ map dataOf cs
     → rowsReading s scratch (rowsFrom at cs) ≡ bitmapsVerdict cs

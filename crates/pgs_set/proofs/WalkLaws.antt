@@ -6,9 +6,9 @@ use native.Mathlib.Omega.{arith}
 use lib.ListN.{length, take, drop, length-drop}
 use lib.Seq.{drop-drop, length-take-le}
 use Rattle.pgs_base.specs.Bytes.{num}
-use Rattle.pgs_base.specs.Outcome.{Verdict, accepted, refused, andThen}
+use Rattle.pgs_base.specs.Outcome.{accepted, refused, andThen}
 use Rattle.pgs_base.proofs.Bytes.{num-take}
-use Rattle.pgs_base.proofs.Outcomes.{first-accepts, second-holds}
+use Rattle.pgs_base.proofs.Outcomes.{first-accepts, second-holds, not-both, not-refused}
 use Rattle.pgs_segment.specs.Header.{headerVerdict}
 use Rattle.pgs_views.specs.Kinds.{typeOf}
 use Rattle.pgs_segment.specs.OneSegment.{segmentType, segmentVerdict, usedBy}
@@ -46,11 +46,7 @@ module _ (s : List ℕ) (at : ℕ) where
 
   -- a segment stands where an accepted stream is not at its end
   pub step-here : at < length s → streamVerdict (drop at s) ≡ accepted → stepVerdict (drop at s) ≡ accepted
-  step-here h good = go (stepVerdict (drop at s)) refl
-    where
-      go : (v : Verdict) → stepVerdict (drop at s) ≡ v → stepVerdict (drop at s) ≡ accepted
-      go accepted e = e
-      go (refused k) e = let no : refused k ≡ accepted = sym (stops-here h e) ∙ good in e ∙ no
+  step-here h good = not-refused (stepVerdict (drop at s)) (λ k e. not-both good (stops-here h e))
 
   -- the end has no segment, and refuses nothing
   empty-end : length s ≤ at → drop at s ≡ []

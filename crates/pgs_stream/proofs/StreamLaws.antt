@@ -8,11 +8,11 @@ use borrow.Author.Tests.{lt-ltb}
 use lib.ListN.{length, take, drop, set, length-drop}
 use lib.Seq.{drop-drop, length-take-le, drop-length}
 use Rattle.pgs_base.specs.Bytes.{num}
-use Rattle.pgs_base.specs.Outcome.{Verdict, accepted, refused, Outcome, gives, refuses, outcomeOf, isAccepted, laid}
+use Rattle.pgs_base.specs.Outcome.{accepted, refused, Outcome, gives, refuses, outcomeOf, isAccepted, laid}
 use Rattle.pgs_base.proofs.Bytes.{num-take}
 use Rattle.pgs_base.proofs.Lists.{to-end}
 use Rattle.pgs_base.proofs.Front.{Front, begins, stored, filled}
-use Rattle.pgs_base.proofs.Outcomes.{gave-value, turned-down, not-both, is-accepted, first-accepts}
+use Rattle.pgs_base.proofs.Outcomes.{gave-value, turned-down, not-both, not-refused, is-accepted, first-accepts}
 use Rattle.pgs_segment.specs.Header.{headerVerdict, headerFields, headerOf}
 use Rattle.pgs_segment.specs.OneSegment.{segmentVerdict, usedBy, frameOf}
 use Rattle.pgs_segment.specs.declared.header.SegmentHeader.{SegmentHeader}
@@ -155,11 +155,9 @@ module _ (s : List ℕ) (n : ℕ) where
   module _ {start now : List (List ℕ)} {i at : ℕ} (c : Storing s n start now i at) where
     -- one is left: a segment is accepted here
     pub next-accepted : i < n → stepVerdict (drop at s) ≡ accepted
-    next-accepted h = go (stepVerdict (drop at s)) refl
-      where
-        go : (v : Verdict) → stepVerdict (drop at s) ≡ v → stepVerdict (drop at s) ≡ accepted
-        go accepted e = e
-        go (refused k) e = absurd (omega (arith, ap (λ (x : Reading). length (x .pieces)) (read-stops (drop at s) e), c .count))
+    next-accepted h =
+        not-refused (stepVerdict (drop at s))
+        (λ k e. omega (arith, ap (λ (x : Reading). length (x .pieces)) (read-stops (drop at s) e), c .count))
 
     pub next-within : i < n → at + usedBy (drop at s) ≤ length s
     next-within h = omega (arith, step-within (drop at s) (next-accepted h), length-drop at s, c .inside)
