@@ -3,7 +3,7 @@ use pgs_base::refusal::Refusal;
 use pgs_ods::ods::Dimensions;
 use pgs_ods::ods::Ods;
 use pgs_ods::ods::OdsAnswer;
-use pgs_reassembly::FragmentHead;
+use pgs_reassembly::FragmentNumbers;
 use pgs_segment::header::header_at;
 use pgs_set::set::is_end;
 use pgs_views::fragment_flag::FragmentFlag;
@@ -68,7 +68,7 @@ fn height_in(dimensions: Dimensions) -> usize
 }
 
 // The fragment in the segment at `at`, which is known to be an ODS of `used` bytes.
-pub(crate) fn read_fragment(s: &[u8], at: usize, used: usize) -> FragmentHead
+pub(crate) fn read_fragment(s: &[u8], at: usize, used: usize) -> FragmentNumbers
     requires { ⌜ stepVerdict (drop at (now s)) ≡ accepted ⌝ }
     requires { ⌜ isOds (segmentType (drop at (now s))) ≡ true ⌝ }
     requires { ⌜ used ≡ usedBy (drop at (now s)) ⌝ }
@@ -78,7 +78,7 @@ pub(crate) fn read_fragment(s: &[u8], at: usize, used: usize) -> FragmentHead
         OdsAnswer::Fragment(ods, data) => {
             let dimensions = ods.dimensions;
             let flag = ods.last_in_sequence_flag;
-            FragmentHead {
+            FragmentNumbers {
                 id: ods.object_id as usize,
                 version: ods.object_version_number as usize,
                 width: width_in(dimensions),
@@ -92,7 +92,7 @@ pub(crate) fn read_fragment(s: &[u8], at: usize, used: usize) -> FragmentHead
             }
         }
         // cannot be: the segment was accepted
-        OdsAnswer::Refused(_) => FragmentHead {
+        OdsAnswer::Refused(_) => FragmentNumbers {
             id: 0,
             version: 0,
             width: 0,
@@ -129,7 +129,7 @@ fn one_if(b: bool) -> usize
 }
 
 // A first fragment opens a chain, unless its id is known, which stands at row i, or the table is full.
-fn open_chain(table: &mut [[usize; 10]], n: usize, i: usize, f: FragmentHead) -> ChainsAnswer
+fn open_chain(table: &mut [[usize; 10]], n: usize, i: usize, f: FragmentNumbers) -> ChainsAnswer
     requires { ⌜ n ≤ length (now table) ⌝ }
     requires { ⌜ i ≡ rowWith (f .id) (take n (now table)) ⌝ }
     requires { ⌜ f .first ≡ true ⌝ }
@@ -162,7 +162,7 @@ fn open_chain(table: &mut [[usize; 10]], n: usize, i: usize, f: FragmentHead) ->
 }
 
 // A continuation extends the chain of its id, which stands at row i, if it is open.
-fn continue_chain(table: &mut [[usize; 10]], n: usize, i: usize, f: FragmentHead) -> ChainsAnswer
+fn continue_chain(table: &mut [[usize; 10]], n: usize, i: usize, f: FragmentNumbers) -> ChainsAnswer
     requires { ⌜ n ≤ length (now table) ⌝ }
     requires { ⌜ i ≡ rowWith (f .id) (take n (now table)) ⌝ }
     requires { ⌜ f .first ≡ false ⌝ }
@@ -194,7 +194,7 @@ fn continue_chain(table: &mut [[usize; 10]], n: usize, i: usize, f: FragmentHead
 }
 
 // Takes one more fragment into the table, whose first n rows are the chains of those before it.
-fn take_fragment(table: &mut [[usize; 10]], n: usize, f: FragmentHead) -> ChainsAnswer
+fn take_fragment(table: &mut [[usize; 10]], n: usize, f: FragmentNumbers) -> ChainsAnswer
     requires { ⌜ n ≤ length (now table) ⌝ }
     requires { ⌜ total (take n (now table)) + f .len < 2 ^ 64 ⌝ }
     ensures { λ r. ⌜ Took (now (table .entry)) (now (table .exit)) n f (chainsOutcome r) ⌝ }

@@ -20,10 +20,9 @@ ghost use Rattle.pgs_reassembly.specs.Objects.{
   objectsVerdictWithin,
 };
 ghost use Rattle.pgs_set.specs.Sets.{setCount, setsOf, setsOutcome, setsVerdict};
-ghost use Rattle.pgs_reassembly.specs.Tables.{Gathered};
+ghost use Rattle.pgs_reassembly.specs.Tables.{Gathered, fragmentsLeft};
 ghost use Rattle.pgs_object.specs.Answers.{foundOutcome};
 ghost use Rattle.pgs_set.specs.Walks.{InSet};
-ghost use Rattle.pgs_reassembly.specs.Tables.{fragmentsLeft};
 
 // How many objects a set has, and how many bytes of a scratch they take, or why it is refused.
 pub(crate) enum FoundAnswer {

@@ -8,8 +8,7 @@ ghost use Prim.Native.Nat.{_≤_};
 ghost use lib.ListN.{length};
 ghost use Rattle.pgs_base.specs.Outcome.{accepted, laid};
 ghost use Rattle.pgs_reassembly.specs.Objects.{joined, withId};
-ghost use Rattle.pgs_reassembly.specs.Tables.{joinedIn, joinedRows, Measured};
-ghost use Rattle.pgs_reassembly.specs.Tables.{fragmentsLeft};
+ghost use Rattle.pgs_reassembly.specs.Tables.{fragmentsLeft, joinedIn, joinedRows, Measured};
 
 // Joins the data of the fragments with this id, from the segment at `from` on: `out` is its own part of the scratch, exactly as long.
 fn join_chain(s: &[u8], from: usize, id: usize, out: &mut [u8])

@@ -1,7 +1,7 @@
 // Testing the chains of a set and listing its objects (01, module 7), from the rows that finding the chains left.
 use pgs_base::refusal::Refusal;
 ghost use mathlib.Core.Path.{_≡_};
-ghost use Prim.Native.Nat.{_+_, _≤_, _<_, _^_};
+ghost use Prim.Native.Nat.{_≤_, _<_, _^_};
 ghost use lib.ListN.{length};
 ghost use Rattle.pgs_base.specs.Outcome.{accepted, outcomeOf, laid};
 ghost use Rattle.pgs_reassembly.specs.Tables.{

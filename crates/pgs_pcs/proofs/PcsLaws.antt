@@ -1,4 +1,4 @@
--- How testing and reading a PCS body end, over its bytes. Assumes nothing.
+-- How testing and reading a PCS body end, over its bytes, and that a crop is told by its cells. Assumes nothing.
 use mathlib.Core.Path.{_≡_, refl, sym, ap, _∙_}
 use mathlib.Core.Bool.{Bool, true, false}
 use mathlib.Core.List.{List, _∷_, map}

@@ -2,7 +2,7 @@
 use mathlib.Core.Path.{_≡_, refl, sym, ap, _∙_}
 use mathlib.Core.Bool.{Bool, true, false}
 use mathlib.Core.List.{List, [], _∷_, _++_, map, append-nil}
-use Prim.Native.Nat.{ℕ, zero, suc, _+_, _-_, _≤_, _<_}
+use Prim.Native.Nat.{ℕ, zero, suc, _+_, _≤_, _<_}
 use native.Mathlib.Omega.{arith}
 use borrow.Author.Tests.{eq-eqb, ne-eqb, eqb-true, eqb-false}
 use lib.Dec.{eqb}
@@ -13,7 +13,7 @@ use Rattle.pgs_reassembly.proofs.Lists.{drop-next}
 use Rattle.pgs_reassembly.specs.Objects.{Fragment, Chain, unseen, continuing, complete, idOf, opensChain, closesChain, dataPlace, objectId, withId, chainsOf, anyLast, ended, joined, stateOf, declaredLength, versionOf, widthOf, heightOf}
 use Rattle.pgs_reassembly.specs.Reassembly.{anyMore}
 use Rattle.pgs_reassembly.specs.Tables.{headOf, chainRow, rowWith, total, Distinct}
-use Rattle.pgs_reassembly.specs.declared.FragmentHead.{FragmentHead}
+use Rattle.pgs_reassembly.specs.declared.FragmentNumbers.{FragmentNumbers}
 
 -- the loop that finds an id
 module _ (rows : List (List ℕ)) (id i : ℕ) where
@@ -147,7 +147,7 @@ state-unseen id (c ∷ cs) h = go (eqb (objectId c) id) h (state-unseen id cs)
     go false k ih = ih (omega arith)
 
 -- the row of a chain that takes a continuation
-abbrev pub grow : List ℕ → FragmentHead → List ℕ
+abbrev pub grow : List ℕ → FragmentNumbers → List ℕ
 grow r h =
     getD r 0 0
     ∷ getD r 1 0

@@ -24,7 +24,7 @@ use Rattle.pgs_set.proofs.SetLaws.{kind-read, size-read}
 use Rattle.pgs_reassembly.specs.Objects.{Fragment, isOds, fragmentAt, fragmentsFrom, idOf, withId, joined}
 use Rattle.pgs_set.specs.Sets.{isEnd, throughEnd}
 use Rattle.pgs_reassembly.specs.Tables.{headOf, joinedIn, rowData, joinedRows, Measured, fragmentsLeft}
-use Rattle.pgs_reassembly.specs.declared.FragmentHead.{FragmentHead}
+use Rattle.pgs_reassembly.specs.declared.FragmentNumbers.{FragmentNumbers}
 
 -- a part of a front comes back with what was written, whatever its end is called
 pub part-back : {start whole now rest : List ℕ} (ys : List ℕ) {k n : ℕ} → Front start whole now (ys ++ rest) k → n ≡ length ys → k + n ≤ length now
@@ -96,27 +96,27 @@ module _ (s : List ℕ) (from id : ℕ) where
           next : fragmentsLeft s at ≡ fragmentAt at (drop at s) ∷ fragmentsLeft s (at + usedBy (drop at s))
           next = left-next s at joins-here no-end joins-ods
 
-          module _ {f : FragmentHead} (ef : f ≡ headOf (fragmentAt at (drop at s))) where
+          module _ {f : FragmentNumbers} (ef : f ≡ headOf (fragmentAt at (drop at s))) where
             -- a fragment of another object
             pub joins-other : (f .id ≡ id → ⊥) → Joining s from id start now (at + (13 + h .«segment_size»)) k
             joins-other n =
                 passes
                 (ap (λ (fs : List Fragment). joined (withId id fs)) next
-                ∙ ap joined (pick-second _ _ (ne-eqb (idOf (fragmentAt at (drop at s))) id (λ (x : idOf (fragmentAt at (drop at s)) ≡ id). n (ap (λ (y : FragmentHead). y .id) ef ∙ x)))))
+                ∙ ap joined (pick-second _ _ (ne-eqb (idOf (fragmentAt at (drop at s))) id (λ (x : idOf (fragmentAt at (drop at s)) ≡ id). n (ap (λ (y : FragmentNumbers). y .id) ef ∙ x)))))
 
             module _ (same : f .id ≡ id) where
               rest : joined (withId id (fragmentsLeft s at))
                   ≡ fragmentAt at (drop at s) .bytes ++ joined (withId id (fragmentsLeft s (at + usedBy (drop at s))))
               rest =
                   ap (λ (fs : List Fragment). joined (withId id fs)) next
-                  ∙ ap joined (pick-first _ _ (eq-eqb (idOf (fragmentAt at (drop at s))) id (sym (ap (λ (y : FragmentHead). y .id) ef) ∙ same)))
+                  ∙ ap joined (pick-first _ _ (eq-eqb (idOf (fragmentAt at (drop at s))) id (sym (ap (λ (y : FragmentNumbers). y .id) ef) ∙ same)))
 
               its-length : f .len ≡ length (fragmentAt at (drop at s) .bytes)
-              its-length = ap (λ (y : FragmentHead). y .len) ef
+              its-length = ap (λ (y : FragmentNumbers). y .len) ef
 
               -- its data lies within the stream, and fits the part
               pub joins-from : f .start + f .len ≤ length s
-              joins-from = omega (arith, ap (λ (y : FragmentHead). y .start) ef, its-length, data-within s at joins-here joins-ods)
+              joins-from = omega (arith, ap (λ (y : FragmentNumbers). y .start) ef, its-length, data-within s at joins-here joins-ods)
 
               pub joins-to : k + f .len ≤ length now
               joins-to =
@@ -126,7 +126,7 @@ module _ (s : List ℕ) (from id : ℕ) where
               its-bytes : take (f .start + f .len - f .start) (drop (f .start) s) ≡ fragmentAt at (drop at s) .bytes
               its-bytes =
                   let n : f .start + f .len - f .start ≡ length (fragmentAt at (drop at s) .bytes) = omega (arith, its-length) in
-                  (λ j. take (n j) (drop (ap (λ (y : FragmentHead). y .start) ef j) s)) ∙ data-part s at joins-here joins-ods
+                  (λ j. take (n j) (drop (ap (λ (y : FragmentNumbers). y .start) ef j) s)) ∙ data-part s at joins-here joins-ods
 
               -- its data is copied
               pub joins-on : {ys : List ℕ}

@@ -150,7 +150,7 @@ rows-records at (c ∷ cs) =
     holder true = refl
     holder false = refl
 
--- an object, a record
+-- one record to an object
 pub record-count : (at : ℕ) (xs : List Chain) → length (rowsFrom at xs) ≡ length xs
 record-count at [] = refl
 record-count at (c ∷ xs) = ap suc (record-count (at + length (copiedData c)) xs)

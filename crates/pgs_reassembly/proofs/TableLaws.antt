@@ -14,10 +14,10 @@ use Rattle.pgs_reassembly.proofs.ChainLaws.{chain-of, extend, chains-ex
 use Rattle.pgs_set.proofs.Choices.{pick-first, pick-second}
 use Rattle.pgs_reassembly.specs.Objects.{Fragment, Chain, ChainState, unseen, continuing, complete, idOf, closesChain, dataPlace, chainsOf, stateOf, fragmentVerdict, firstVerdict, nextVerdict, widthIn, heightIn}
 use Rattle.pgs_reassembly.specs.Tables.{headOf, chainRow, rowWith, total, Holds, Grown, Took}
-use Rattle.pgs_reassembly.specs.declared.FragmentHead.{FragmentHead}
+use Rattle.pgs_reassembly.specs.declared.FragmentNumbers.{FragmentNumbers}
 
 -- the row of a new chain
-abbrev pub new-row : FragmentHead → List ℕ
+abbrev pub new-row : FragmentNumbers → List ℕ
 new-row h =
     h .id
     ∷ h .version
@@ -54,7 +54,7 @@ map-snoc : (cs : List Chain) (c : Chain) → map chainRow (cs ++ (c ∷ [])) ≡
 map-snoc [] c = refl
 map-snoc (b ∷ cs) c = ap (λ (l : List (List ℕ)). chainRow b ∷ l) (map-snoc cs c)
 
-module _ (table : List (List ℕ)) (n : ℕ) (h : FragmentHead) where
+module _ (table : List (List ℕ)) (n : ℕ) (h : FragmentNumbers) where
   took-refusal : (table′ : List (List ℕ)) (k : ℕ)
       → ((fs : List Fragment) (f : Fragment) → Holds fs table n → h ≡ headOf f → fragmentVerdict (length table) (chainsOf fs) f ≡ refused k)
       → Took table table′ n h (refuses k)
@@ -92,11 +92,11 @@ module _ (table : List (List ℕ)) (n : ℕ) (h : FragmentHead) where
       as-first : h .first ≡ true → {t : ChainState} → stateOf (idOf f) (chainsOf fs) ≡ t
           → fragmentVerdict (length table) (chainsOf fs) f ≡ firstVerdict (length table) (length (chainsOf fs)) t
       as-first q r =
-          pick-first _ _ (sym (ap (λ (x : FragmentHead). x .first) e) ∙ q) ∙ ap (firstVerdict (length table) (length (chainsOf fs))) r
+          pick-first _ _ (sym (ap (λ (x : FragmentNumbers). x .first) e) ∙ q) ∙ ap (firstVerdict (length table) (length (chainsOf fs))) r
 
       as-next : h .first ≡ false → {t : ChainState} → stateOf (idOf f) (chainsOf fs) ≡ t
           → fragmentVerdict (length table) (chainsOf fs) f ≡ nextVerdict t
-      as-next q r = pick-second _ _ (sym (ap (λ (x : FragmentHead). x .first) e) ∙ q) ∙ ap nextVerdict r
+      as-next q r = pick-second _ _ (sym (ap (λ (x : FragmentNumbers). x .first) e) ∙ q) ∙ ap nextVerdict r
 
     -- a first fragment
     module _ (q : h .first ≡ true) where
@@ -127,7 +127,7 @@ module _ (table : List (List ℕ)) (n : ℕ) (h : FragmentHead) where
                       rows = taken ∙ (λ j. hs .rows j ++ (sym (row-new f ∙ ap new-row (sym e)) j ∷ [])) ∙ sym (ap (map chainRow) all ∙ map-snoc (chainsOf fs) (chain-of f));
                       distinct = rw all (distinct-added f (chainsOf fs) (hs .distinct) none);
                     };
-                more = omega (arith, ap total taken, total-append (take n table) (new-row h), ap (λ (x : FragmentHead). x .len) e);
+                more = omega (arith, ap total taken, total-append (take n table) (new-row h), ap (λ (x : FragmentNumbers). x .len) e);
               }
             where
               none : stateOf (idOf f) (chainsOf fs) ≡ unseen
@@ -138,7 +138,7 @@ module _ (table : List (List ℕ)) (n : ℕ) (h : FragmentHead) where
 
               all : chainsOf (fs ++ (f ∷ [])) ≡ chainsOf fs ++ (chain-of f ∷ [])
               all =
-                  chains-added fs f (sym (ap (λ (x : FragmentHead). x .first) e) ∙ q)
+                  chains-added fs f (sym (ap (λ (x : FragmentNumbers). x .first) e) ∙ q)
                   ∙ ap (λ (l : List Chain). l ++ (chain-of f ∷ [])) (extend-none f (chainsOf fs) none)
 
     -- a continuation
@@ -168,7 +168,7 @@ module _ (table : List (List ℕ)) (n : ℕ) (h : FragmentHead) where
                       rows = taken ∙ (λ j. set (hs .rows j) (index fs f hs e j) (grow (row j) (e j))) ∙ sym (rows-grown f (chainsOf fs) (hs .distinct) open-here) ∙ sym (ap (map chainRow) all);
                       distinct = rw all (distinct-extended f (chainsOf fs) (hs .distinct));
                     };
-                more = omega (arith, ap total taken, total-set (take n table) i (h .len) (grow (getD table i []) h) (rw (length-take-le n table k) m) (ap (λ (x : List ℕ). getD x 9 0 + h .len) (sym (getD-take n table i [] m))), ap (λ (x : FragmentHead). x .len) e);
+                more = omega (arith, ap total taken, total-set (take n table) i (h .len) (grow (getD table i []) h) (rw (length-take-le n table k) m) (ap (λ (x : List ℕ). getD x 9 0 + h .len) (sym (getD-take n table i [] m))), ap (λ (x : FragmentNumbers). x .len) e);
               }
             where
               open-here : stateOf (idOf f) (chainsOf fs) ≡ continuing
@@ -181,4 +181,4 @@ module _ (table : List (List ℕ)) (n : ℕ) (h : FragmentHead) where
               row = sym (getD-take n table i [] m) ∙ (λ j. getD (hs .rows j) (index fs f hs e j) [])
 
               all : chainsOf (fs ++ (f ∷ [])) ≡ map (extend f) (chainsOf fs)
-              all = chains-extended fs f (sym (ap (λ (x : FragmentHead). x .first) e) ∙ q)
+              all = chains-extended fs f (sym (ap (λ (x : FragmentNumbers). x .first) e) ∙ q)

@@ -8,7 +8,7 @@ use mathlib.Core.Bool.{Bool, true, false}
 use mathlib.Core.List.{List, [], _∷_, _++_}
 use lib.Dec.{leb, eqb}
 use lib.ListN.{length, take, drop, getD}
-use Rattle.pgs_base.specs.Outcome.{Verdict, Outcome, gives, refuses, outcomeOf, andThen, needing, laid, pick}
+use Rattle.pgs_base.specs.Outcome.{Verdict, Outcome, outcomeOf, andThen, needing, laid, pick}
 use Rattle.pgs_reassembly.specs.Objects.{Fragment, Chain, objectId, versionOf, widthOf, heightOf, dataOf, dataPlace}
 
 abbrev pub anyMore : List Fragment → Bool

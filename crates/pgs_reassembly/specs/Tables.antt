@@ -1,5 +1,5 @@
--- The table of chains that finding objects keeps: a row of numbers for each chain, in first-seen order. Private contracts cite this;
--- those of public functions cite `Objects` and `Reassembly`.
+-- The table of chains that finding objects keeps: a row of numbers for each chain, in first-seen order. Private contracts of
+-- `pgs_object` cite this; those of its public functions cite `Objects` and `Reassembly`.
 use Prim.Native.Nat.{ℕ, suc, _+_, _-_, _≤_}
 use mathlib.Core.Path.{_≡_}
 use mathlib.Core.List.{List, [], _∷_, _++_, map}
@@ -10,14 +10,14 @@ use Rattle.pgs_reassembly.specs.Objects.{Fragment, fragmentsFrom, Chain,
 use Rattle.pgs_reassembly.specs.Reassembly.{copied, joinedData}
 use Rattle.pgs_set.specs.Sets.{throughEnd}
 use Rattle.pgs_set.specs.Walks.{piecesAt}
-use Rattle.pgs_reassembly.specs.declared.FragmentHead.{FragmentHead}
+use Rattle.pgs_reassembly.specs.declared.FragmentNumbers.{FragmentNumbers}
 
 -- the fragments from a place on in the set that is open there
 abbrev pub fragmentsLeft : List ℕ → ℕ → List Fragment
 fragmentsLeft s at = fragmentsFrom at (throughEnd (piecesAt s at))
 
 -- the numbers of a fragment
-abbrev pub headOf : Fragment → FragmentHead
+abbrev pub headOf : Fragment → FragmentNumbers
 headOf f =
     record {
       id = idOf f;
@@ -76,7 +76,7 @@ pub record Grown (fs : List Fragment) (f : Fragment) (table table′ : List (Lis
   pub more : total (take n′ table′) ≤ total (take n table) + length (f .bytes)
 
 -- taking one more fragment into a table, with this answer
-pub record Took (table table′ : List (List ℕ)) (n : ℕ) (h : FragmentHead) (answer : Outcome ℕ) : Type 0 where
+pub record Took (table table′ : List (List ℕ)) (n : ℕ) (h : FragmentNumbers) (answer : Outcome ℕ) : Type 0 where
   pub turned : (fs : List Fragment) (f : Fragment) → Holds fs table n → h ≡ headOf f → (k : ℕ) → answer ≡ refuses k
       → fragmentVerdict (length table) (chainsOf fs) f ≡ refused k
   pub grew : (fs : List Fragment) (f : Fragment) → Holds fs table n → h ≡ headOf f → (n′ : ℕ) → answer ≡ gives n′

@@ -2,7 +2,7 @@
 // lists and joins them.
 
 // The numbers of a fragment.
-pub struct FragmentHead {
+pub struct FragmentNumbers {
     pub id: usize,
     pub version: usize,
     // 0 where the fragment has no dimensions

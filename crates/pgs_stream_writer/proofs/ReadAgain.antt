@@ -49,8 +49,8 @@ as-many row xs are = ap length are ∙ length-map xs row
 
 module _ {A X : Type 0} (row : A → List ℕ) (xs : List A) {rows : List (List ℕ)} (are : rows ≡ map row xs) {v : Verdict} {x : X} {before after : List (List ℕ)} where
   -- with room for all, an accepted body is not refused
-  pub not-refused : v ≡ accepted → length xs ≤ length before → {k : ℕ} → Delivered v x rows before after (refuses k) → ⊥
-  not-refused e h {k} d =
+  pub never-refused : v ≡ accepted → length xs ≤ length before → {k : ℕ} → Delivered v x rows before after (refuses k) → ⊥
+  never-refused e h {k} d =
       not-both (simp (e, le-leb (length rows) (length before) (omega (arith, as-many row xs are)))) (delivered-refusal d)
 
   module _ {y : X} (d : Delivered v x rows before after (gives y)) where

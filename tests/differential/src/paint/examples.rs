@@ -11,16 +11,16 @@ use crate::sets::oracle::sets;
 use oracle::{Painting, WantedPlane};
 
 pub const EXAMPLES: [Example; 6] = [
+    (34, "which palettes count", |tally| painted(palettes(), tally)),
+    (36, "places past the plane, crops past the object, a crop only at flag 40", |tally| {
+        painted(places(), tally)
+    }),
     (37, "an entry, an index without one, two placements", |tally| painted(two_letters(), tally)),
     (38, "a bad bitmap that no placement shows comes before an absent object", |tally| {
         painted(unplaced(), tally)
     }),
+    (38, "no END, an empty plane, nothing placed", |tally| painted(nothing(), tally)),
     (39, "a refusal of 24 to 33 leaves the joined data", |tally| painted(joined(), tally)),
-    (40, "which palettes count", |tally| painted(palettes(), tally)),
-    (41, "places past the plane, crops past the object, a crop only at flag 40", |tally| {
-        painted(places(), tally)
-    }),
-    (42, "no END, an empty plane, nothing placed", |tally| painted(nothing(), tally)),
 ];
 
 /// The plane with width, height and PTS, or the number.

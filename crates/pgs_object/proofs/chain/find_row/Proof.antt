@@ -3,7 +3,6 @@
 use borrow.Author.Needs.{needs}
 use Rattle.pgs_reassembly.proofs.ChainLaws.{row-here, row-on, row-none}
 use Rattle.pgs_reassembly.specs.Tables.{rowWith}
-use borrow.Author.Needs.{needs}
 use Prim.Native.Nat.{_+_, _-_, _≤_}
 use lib.ListN.{length, drop}
 use denote.Ref.{now}

@@ -1,6 +1,5 @@
 -- `list_objects` stores a record for each row: the loop keeps `Listing`.
 -- Assumes nothing.
-use borrow.Author.Needs.{needs}
 use Rattle.pgs_reassembly.proofs.ListingLaws.{Listing, listing, lists-on, listed, joined-total}
 use borrow.Author.Needs.{needs, scaled-fits}
 use Prim.Native.Nat.{_-_}

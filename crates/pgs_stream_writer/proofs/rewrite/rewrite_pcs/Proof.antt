@@ -3,7 +3,7 @@
 use borrow.Author.Needs.{needs}
 use Rattle.pgs_pcs.specs.PcsBody.{placementRow, placementsOf, pcsOutcome}
 use Rattle.pgs_pcs.proofs.PcsLaws.{placement-list}
-use Rattle.pgs_stream_writer.proofs.ReadAgain.{not-refused, room, front-length, read-again, same-write, placement-back, placement-count, few-placements, pcs-again, marked, front}
+use Rattle.pgs_stream_writer.proofs.ReadAgain.{never-refused, room, front-length, read-again, same-write, placement-back, placement-count, few-placements, pcs-again, marked, front}
 use Rattle.pgs_stream_writer.proofs.rewrite.rewrite_pcs.Statement.{statement}
 use Rattle.pgs_writer_base.specs.Rows.{placementFrom}
 use Rattle.pgs_base.proofs.Outcomes.{delivered-value}
@@ -45,7 +45,7 @@ returns : tie.Need-returns
 returns c =
     let b = now (c .before .before .before .before .before .before .before .before .args .body) in
     absurd
-    (not-refused placementRow (placementsOf b) (placement-list b) (c .before .before .before .before .before .before .before .before .pre) (few-placements b (c .before .before .before .before .before .before .before .before .pre) (c .before .before .before .before .before .before .before .shared-slice-known .given 10 .fits))
+    (never-refused placementRow (placementsOf b) (placement-list b) (c .before .before .before .before .before .before .before .before .pre) (few-placements b (c .before .before .before .before .before .before .before .before .pre) (c .before .before .before .before .before .before .before .shared-slice-known .given 10 .fits))
     (rw (ap pcsOutcome (c .before .why .given .1)) at (c .before .before .before .before .parse .ensures)))
 
 same-length : tie.Need-same-length

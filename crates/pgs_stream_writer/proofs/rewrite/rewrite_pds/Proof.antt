@@ -2,7 +2,7 @@
 -- Assumes nothing.
 use borrow.Author.Needs.{needs}
 use Rattle.pgs_pds.specs.PdsBody.{entryRow, entriesOf, pdsOutcome}
-use Rattle.pgs_stream_writer.proofs.ReadAgain.{not-refused, room, front-length, read-again, same-write, entry-back, entry-list, entry-count, few-entries, pds-again}
+use Rattle.pgs_stream_writer.proofs.ReadAgain.{never-refused, room, front-length, read-again, same-write, entry-back, entry-list, entry-count, few-entries, pds-again}
 use Rattle.pgs_stream_writer.proofs.rewrite.rewrite_pds.Statement.{statement}
 use Rattle.pgs_writer_base.specs.Rows.{entryFrom}
 use Rattle.pgs_base.proofs.Outcomes.{delivered-value}
@@ -44,7 +44,7 @@ returns : tie.Need-returns
 returns c =
     let b = now (c .before .before .before .before .before .before .before .before .args .body) in
     absurd
-    (not-refused entryRow (entriesOf b) (entry-list b) (c .before .before .before .before .before .before .before .before .pre .0) (few-entries b (c .before .before .before .before .before .before .before .before .pre .1))
+    (never-refused entryRow (entriesOf b) (entry-list b) (c .before .before .before .before .before .before .before .before .pre .0) (few-entries b (c .before .before .before .before .before .before .before .before .pre .1))
     (rw (ap pdsOutcome (c .before .why .given .1)) at (c .before .before .before .before .parse .ensures)))
 
 same-length : tie.Need-same-length

@@ -2,7 +2,7 @@
 -- Assumes nothing.
 use borrow.Author.Needs.{needs}
 use Rattle.pgs_wds.specs.WdsBody.{windowRow, windowsOf, wdsOutcome}
-use Rattle.pgs_stream_writer.proofs.ReadAgain.{not-refused, room, front-length, read-again, same-write, window-back, window-list, window-count, few-windows, wds-again}
+use Rattle.pgs_stream_writer.proofs.ReadAgain.{never-refused, room, front-length, read-again, same-write, window-back, window-list, window-count, few-windows, wds-again}
 use Rattle.pgs_stream_writer.proofs.rewrite.rewrite_wds.Statement.{statement}
 use Rattle.pgs_writer_base.specs.Rows.{windowFrom}
 use Rattle.pgs_base.proofs.Outcomes.{delivered-value}
@@ -42,7 +42,7 @@ returns : tie.Need-returns
 returns c =
     let b = now (c .before .before .before .before .before .before .before .before .args .body) in
     absurd
-    (not-refused windowRow (windowsOf b) (window-list b) (c .before .before .before .before .before .before .before .before .pre) (few-windows b (c .before .before .before .before .before .before .before .before .pre) (c .before .before .before .before .before .before .before .shared-slice-known .given 0 .fits))
+    (never-refused windowRow (windowsOf b) (window-list b) (c .before .before .before .before .before .before .before .before .pre) (few-windows b (c .before .before .before .before .before .before .before .before .pre) (c .before .before .before .before .before .before .before .shared-slice-known .given 0 .fits))
     (rw (ap wdsOutcome (c .before .why .given .1)) at (c .before .before .before .before .parse .ensures)))
 
 same-length : tie.Need-same-length
