@@ -8,7 +8,8 @@ abbrev pub big : List ℕ → ℕ
 big [] = 0
 big (b ∷ bs) = b * 256 ^ length bs + big bs
 
--- the number in the w bytes from place `at` of l; of a list that ends before, in those that are there, on which no call that can refuse rests an accepted answer
+-- the number in the w bytes from place `at` of l; of a list that ends before, in those that are there: no call that can refuse rests an
+-- accepted answer on that
 unfoldable pub num : ℕ → ℕ → List ℕ → ℕ
 num w at l = big (take w (drop at l))
 

@@ -17,7 +17,7 @@ ghost use Rattle.pgs_segment.specs.OneSegment.{segmentType, usedBy};
 ghost use Rattle.pgs_stream.specs.Stream.{stepVerdict};
 ghost use Rattle.pgs_reassembly.specs.Objects.{isOds, widthIn, heightIn, fragmentAt};
 ghost use Rattle.pgs_reassembly.specs.Tables.{
-  headOf,
+  fragmentNumbers,
   rowWith,
   total,
   Took,
@@ -72,7 +72,7 @@ pub(crate) fn read_fragment(s: &[u8], at: usize, used: usize) -> FragmentNumbers
     requires { ⌜ stepVerdict (drop at (now s)) ≡ accepted ⌝ }
     requires { ⌜ isOds (segmentType (drop at (now s))) ≡ true ⌝ }
     requires { ⌜ used ≡ usedBy (drop at (now s)) ⌝ }
-    ensures { λ r. ⌜ r ≡ headOf (fragmentAt at (drop at (now (s .entry)))) ⌝ }
+    ensures { λ r. ⌜ r ≡ fragmentNumbers (fragmentAt at (drop at (now (s .entry)))) ⌝ }
 {
     match Ods::parse(&s[at + 13..at + used]) {
         OdsAnswer::Fragment(ods, data) => {

@@ -12,7 +12,7 @@ use Rattle.pgs_set.proofs.Choices.{pick-first, pick-second}
 use Rattle.pgs_reassembly.proofs.Lists.{drop-next}
 use Rattle.pgs_reassembly.specs.Objects.{Fragment, Chain, unseen, continuing, complete, idOf, opensChain, closesChain, dataPlace, objectId, withId, chainsOf, anyLast, ended, joined, stateOf, declaredLength, versionOf, widthOf, heightOf}
 use Rattle.pgs_reassembly.specs.Reassembly.{anyMore}
-use Rattle.pgs_reassembly.specs.Tables.{headOf, chainRow, rowWith, total, Distinct}
+use Rattle.pgs_reassembly.specs.Tables.{fragmentNumbers, chainRow, rowWith, total, Distinct}
 use Rattle.pgs_reassembly.specs.declared.FragmentNumbers.{FragmentNumbers}
 
 -- the loop that finds an id
@@ -182,7 +182,7 @@ joined-snoc : (fs : List Fragment) (g : Fragment) → length (joined (fs ++ (g �
 joined-snoc [] g = simp (length-append) (omega arith)
 joined-snoc (f ∷ fs) g = simp length-append (omega (arith, joined-snoc fs g))
 
-row-grown : (g : Fragment) (c : Chain) → objectId c ≡ idOf g → ended c ≡ false → chainRow (extend g c) ≡ grow (chainRow c) (headOf g)
+row-grown : (g : Fragment) (c : Chain) → objectId c ≡ idOf g → ended c ≡ false → chainRow (extend g c) ≡ grow (chainRow c) (fragmentNumbers g)
 row-grown g c e q =
     let w : withId (objectId c) (g ∷ []) ≡ g ∷ [] = pick-first (g ∷ []) [] (eq-eqb (idOf g) (objectId c) (sym e)) in
     λ j.
@@ -201,7 +201,7 @@ row-grown g c e q =
 -- a continuation changes the row of its id
 pub rows-grown : (g : Fragment) (cs : List Chain) → Distinct cs → stateOf (idOf g) cs ≡ continuing
     → map chainRow (map (extend g) cs)
-    ≡ set (map chainRow cs) (rowWith (idOf g) (map chainRow cs)) (grow (getD (map chainRow cs) (rowWith (idOf g) (map chainRow cs)) []) (headOf g))
+    ≡ set (map chainRow cs) (rowWith (idOf g) (map chainRow cs)) (grow (getD (map chainRow cs) (rowWith (idOf g) (map chainRow cs)) []) (fragmentNumbers g))
 rows-grown g [] d e = cc
 rows-grown g (c ∷ cs) d e = go (eqb (objectId c) (idOf g)) refl e (rows-grown g cs (d .1))
   where
@@ -211,9 +211,9 @@ rows-grown g (c ∷ cs) d e = go (eqb (objectId c) (idOf g)) refl e (rows-grown 
 
     go : (b : Bool) → eqb (objectId c) (idOf g) ≡ b → pick b (pick (ended c) complete continuing) (stateOf (idOf g) cs) ≡ continuing
         → (stateOf (idOf g) cs ≡ continuing → map chainRow (map (extend g) cs)
-        ≡ set (map chainRow cs) (rowWith (idOf g) (map chainRow cs)) (grow (getD (map chainRow cs) (rowWith (idOf g) (map chainRow cs)) []) (headOf g)))
+        ≡ set (map chainRow cs) (rowWith (idOf g) (map chainRow cs)) (grow (getD (map chainRow cs) (rowWith (idOf g) (map chainRow cs)) []) (fragmentNumbers g)))
         → chainRow (extend g c) ∷ map chainRow (map (extend g) cs)
-        ≡ set (chainRow c ∷ map chainRow cs) (pick b 0 (suc (rowWith (idOf g) (map chainRow cs)))) (grow (getD (chainRow c ∷ map chainRow cs) (pick b 0 (suc (rowWith (idOf g) (map chainRow cs)))) []) (headOf g))
+        ≡ set (chainRow c ∷ map chainRow cs) (pick b 0 (suc (rowWith (idOf g) (map chainRow cs)))) (grow (getD (chainRow c ∷ map chainRow cs) (pick b 0 (suc (rowWith (idOf g) (map chainRow cs)))) []) (fragmentNumbers g))
     go true r q ih =
         let same : objectId c ≡ idOf g = eqb-true (objectId c) (idOf g) r in
         λ j.

@@ -17,7 +17,7 @@ use Rattle.pgs_set.proofs.SetLaws.{kind-read, size-read, inside-here, inside-on
 use Rattle.pgs_set.proofs.WalkLaws.{within-here}
 use Rattle.pgs_reassembly.specs.Objects.{Fragment, isOds, fragmentAt, chainsOf, fragmentVerdict, verdictAfter}
 use Rattle.pgs_set.specs.Sets.{isEnd}
-use Rattle.pgs_reassembly.specs.Tables.{headOf, total, Holds, Grown, Took, FoundChains, fragmentsLeft}
+use Rattle.pgs_reassembly.specs.Tables.{fragmentNumbers, total, Holds, Grown, Took, FoundChains, fragmentsLeft}
 use Rattle.pgs_set.specs.Walks.{InSet}
 use Rattle.pgs_reassembly.specs.declared.FragmentNumbers.{FragmentNumbers}
 
@@ -101,7 +101,7 @@ module _ (s : List ℕ) (from : ℕ) where
           next = left-next s at finds-here goes its-ods
 
           -- the lengths fit
-          pub finds-fit : {f : FragmentNumbers} → f ≡ headOf (fragmentAt at (drop at s)) → total (take n table) + f .len ≤ length s
+          pub finds-fit : {f : FragmentNumbers} → f ≡ fragmentNumbers (fragmentAt at (drop at s)) → total (take n table) + f .len ≤ length s
           finds-fit ef =
               omega
               (arith, c .small, ap (λ (x : FragmentNumbers). x .len) ef, bytes-within at (drop at s) finds-here its-ods, within-here s at finds-here)
@@ -114,7 +114,7 @@ module _ (s : List ℕ) (from : ℕ) where
               ∙ ap (λ (w : Verdict). andThen w (verdictAfter room (c .earlier ++ (fragmentAt at (drop at s) ∷ [])) (fragmentsLeft s (at + usedBy (drop at s))))) v
 
           -- a fragment that is refused decides
-          pub found-refusal : {f : FragmentNumbers} {table′ : List (List ℕ)} {k : ℕ} → f ≡ headOf (fragmentAt at (drop at s)) → length table′ ≡ length table
+          pub found-refusal : {f : FragmentNumbers} {table′ : List (List ℕ)} {k : ℕ} → f ≡ fragmentNumbers (fragmentAt at (drop at s)) → length table′ ≡ length table
               → Took table table′ n f (refuses k) → FoundChains (fragmentsLeft s from) (length s) table′ (refuses k)
           found-refusal {f} {table′} {k} ef el w =
               record {
@@ -131,7 +131,7 @@ module _ (s : List ℕ) (from : ℕ) where
               }
 
           -- a fragment is taken
-          pub finds-more : {f : FragmentNumbers} {table′ : List (List ℕ)} {n′ : ℕ} → f ≡ headOf (fragmentAt at (drop at s)) → length table′ ≡ length table
+          pub finds-more : {f : FragmentNumbers} {table′ : List (List ℕ)} {n′ : ℕ} → f ≡ fragmentNumbers (fragmentAt at (drop at s)) → length table′ ≡ length table
               → Took table table′ n f (gives n′) → Finding s from room table′ (at + (13 + h .«segment_size»)) n′
           finds-more {f} {table′} {n′} ef el w =
               rw (size-read (drop at s) e)

@@ -27,7 +27,7 @@ use Rattle.pgs_set.proofs.Choices.{pick-first, pick-second}
 use Rattle.pgs_set.proofs.WalkLaws.{step-length, pieces-here, type-of-piece, piece-length, head-field, within-here}
 use Rattle.pgs_reassembly.specs.Objects.{Fragment, isOds, fragmentAt, fragmentsFrom, dataPlace, widthIn, heightIn}
 use Rattle.pgs_set.specs.Sets.{isEnd, throughEnd}
-use Rattle.pgs_reassembly.specs.Tables.{headOf, fragmentsLeft}
+use Rattle.pgs_reassembly.specs.Tables.{fragmentNumbers, fragmentsLeft}
 use Rattle.pgs_set.specs.Walks.{piecesAt}
 
 ods-only : (t : SegmentType) → isOds t ≡ true → t ≡ Ods
@@ -102,7 +102,7 @@ pub head-read : (at : ℕ) (l : List ℕ) {o : declared-ods.Ods} {d : BodyList} 
       start = at + 13 + d .start;
       len = d .len;
     }
-    ≡ headOf (fragmentAt at l)
+    ≡ fragmentNumbers (fragmentAt at l)
 head-read at l p ew eh ea ef eb eg =
     λ j.
     record {

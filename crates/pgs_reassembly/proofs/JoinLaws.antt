@@ -23,7 +23,7 @@ use Rattle.pgs_reassembly.proofs.Lists.{drop-next}
 use Rattle.pgs_set.proofs.SetLaws.{kind-read, size-read}
 use Rattle.pgs_reassembly.specs.Objects.{Fragment, isOds, fragmentAt, fragmentsFrom, idOf, withId, joined}
 use Rattle.pgs_set.specs.Sets.{isEnd, throughEnd}
-use Rattle.pgs_reassembly.specs.Tables.{headOf, joinedIn, rowData, joinedRows, Measured, fragmentsLeft}
+use Rattle.pgs_reassembly.specs.Tables.{fragmentNumbers, joinedIn, rowData, joinedRows, Measured, fragmentsLeft}
 use Rattle.pgs_reassembly.specs.declared.FragmentNumbers.{FragmentNumbers}
 
 -- a part of a front comes back with what was written, whatever its end is called
@@ -96,7 +96,7 @@ module _ (s : List ℕ) (from id : ℕ) where
           next : fragmentsLeft s at ≡ fragmentAt at (drop at s) ∷ fragmentsLeft s (at + usedBy (drop at s))
           next = left-next s at joins-here no-end joins-ods
 
-          module _ {f : FragmentNumbers} (ef : f ≡ headOf (fragmentAt at (drop at s))) where
+          module _ {f : FragmentNumbers} (ef : f ≡ fragmentNumbers (fragmentAt at (drop at s))) where
             -- a fragment of another object
             pub joins-other : (f .id ≡ id → ⊥) → Joining s from id start now (at + (13 + h .«segment_size»)) k
             joins-other n =

@@ -13,7 +13,7 @@ use Rattle.pgs_base.specs.Outcome.{refused, gives, refuses, pick, unless}
 use Rattle.pgs_reassembly.proofs.ChainLaws.{chain-of, extend, chains-extended, chains-added, extend-none, distinct-extended, distinct-added, state-found, state-unseen, grow, rows-grown, total-append, total-at, total-set}
 use Rattle.pgs_set.proofs.Choices.{pick-first, pick-second}
 use Rattle.pgs_reassembly.specs.Objects.{Fragment, Chain, ChainState, unseen, continuing, complete, idOf, closesChain, dataPlace, chainsOf, stateOf, fragmentVerdict, firstVerdict, nextVerdict, widthIn, heightIn}
-use Rattle.pgs_reassembly.specs.Tables.{headOf, chainRow, rowWith, total, Holds, Grown, Took}
+use Rattle.pgs_reassembly.specs.Tables.{fragmentNumbers, chainRow, rowWith, total, Holds, Grown, Took}
 use Rattle.pgs_reassembly.specs.declared.FragmentNumbers.{FragmentNumbers}
 
 -- the row of a new chain
@@ -31,7 +31,7 @@ new-row h =
     ∷ h .len
     ∷ []
 
-row-new : (g : Fragment) → chainRow (chain-of g) ≡ new-row (headOf g)
+row-new : (g : Fragment) → chainRow (chain-of g) ≡ new-row (fragmentNumbers g)
 row-new g =
     λ j.
     idOf g
@@ -56,7 +56,7 @@ map-snoc (b ∷ cs) c = ap (λ (l : List (List ℕ)). chainRow b ∷ l) (map-sno
 
 module _ (table : List (List ℕ)) (n : ℕ) (h : FragmentNumbers) where
   took-refusal : (table′ : List (List ℕ)) (k : ℕ)
-      → ((fs : List Fragment) (f : Fragment) → Holds fs table n → h ≡ headOf f → fragmentVerdict (length table) (chainsOf fs) f ≡ refused k)
+      → ((fs : List Fragment) (f : Fragment) → Holds fs table n → h ≡ fragmentNumbers f → fragmentVerdict (length table) (chainsOf fs) f ≡ refused k)
       → Took table table′ n h (refuses k)
   took-refusal table′ k p =
       record {
@@ -64,7 +64,7 @@ module _ (table : List (List ℕ)) (n : ℕ) (h : FragmentNumbers) where
         grew = λ fs f s e m q. absurd (let z : _≡_ {A = ℕ} 0 1 = cc in omega arith);
       }
 
-  took-more : (table′ : List (List ℕ)) (n′ : ℕ) → ((fs : List Fragment) (f : Fragment) → Holds fs table n → h ≡ headOf f → Grown fs f table table′ n n′)
+  took-more : (table′ : List (List ℕ)) (n′ : ℕ) → ((fs : List Fragment) (f : Fragment) → Holds fs table n → h ≡ fragmentNumbers f → Grown fs f table table′ n n′)
       → Took table table′ n h (gives n′)
   took-more table′ n′ p =
       record {
@@ -73,7 +73,7 @@ module _ (table : List (List ℕ)) (n : ℕ) (h : FragmentNumbers) where
       }
 
   module _ (i : ℕ) (at : i ≡ rowWith (h .id) (take n table)) where
-    module _ (fs : List Fragment) (f : Fragment) (hs : Holds fs table n) (e : h ≡ headOf f) where
+    module _ (fs : List Fragment) (f : Fragment) (hs : Holds fs table n) (e : h ≡ fragmentNumbers f) where
       counted : n ≡ length (chainsOf fs)
       counted = sym (length-take-le n table (hs .within)) ∙ ap length (hs .rows) ∙ length-map (chainsOf fs) chainRow
 
@@ -117,7 +117,7 @@ module _ (table : List (List ℕ)) (n : ℕ) (h : FragmentNumbers) where
           → Took table (set table n (h .id ∷ h .version ∷ h .width ∷ h .height ∷ h .declared ∷ a ∷ 0 ∷ h .place ∷ h .start ∷ h .len ∷ [])) n h (gives (n + 1))
       opened-new m r {a} ea = rw ea (took-more (set table n (new-row h)) (n + 1) grown)
         where
-          grown : (fs : List Fragment) (f : Fragment) → Holds fs table n → h ≡ headOf f → Grown fs f table (set table n (new-row h)) n (n + 1)
+          grown : (fs : List Fragment) (f : Fragment) → Holds fs table n → h ≡ fragmentNumbers f → Grown fs f table (set table n (new-row h)) n (n + 1)
           grown fs f hs e =
               record {
                 accepts = as-first fs f hs e q none ∙ ap (unless 23) (lt-ltb (length (chainsOf fs)) (length table) (omega (arith, counted fs f hs e)));
@@ -158,7 +158,7 @@ module _ (table : List (List ℕ)) (n : ℕ) (h : FragmentNumbers) where
           → Took table (set table i (getD r 0 0 ∷ getD r 1 0 ∷ getD r 2 0 ∷ getD r 3 0 ∷ getD r 4 0 ∷ a ∷ 1 ∷ getD r 7 0 ∷ getD r 8 0 ∷ (getD r 9 0 + h .len) ∷ [])) n h (gives n)
       continued-on k m z {a} ea {r} er = rw (ea, er) (took-more (set table i (grow (getD table i []) h)) n grown)
         where
-          grown : (fs : List Fragment) (f : Fragment) → Holds fs table n → h ≡ headOf f → Grown fs f table (set table i (grow (getD table i []) h)) n n
+          grown : (fs : List Fragment) (f : Fragment) → Holds fs table n → h ≡ fragmentNumbers f → Grown fs f table (set table i (grow (getD table i []) h)) n n
           grown fs f hs e =
               record {
                 accepts = as-next fs f hs e q open-here;

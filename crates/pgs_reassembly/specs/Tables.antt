@@ -17,8 +17,8 @@ abbrev pub fragmentsLeft : List ℕ → ℕ → List Fragment
 fragmentsLeft s at = fragmentsFrom at (throughEnd (piecesAt s at))
 
 -- the numbers of a fragment
-abbrev pub headOf : Fragment → FragmentNumbers
-headOf f =
+abbrev pub fragmentNumbers : Fragment → FragmentNumbers
+fragmentNumbers f =
     record {
       id = idOf f;
       version = f .ods .«object_version_number»;
@@ -77,9 +77,9 @@ pub record Grown (fs : List Fragment) (f : Fragment) (table table′ : List (Lis
 
 -- taking one more fragment into a table, with this answer
 pub record Took (table table′ : List (List ℕ)) (n : ℕ) (h : FragmentNumbers) (answer : Outcome ℕ) : Type 0 where
-  pub turned : (fs : List Fragment) (f : Fragment) → Holds fs table n → h ≡ headOf f → (k : ℕ) → answer ≡ refuses k
+  pub turned : (fs : List Fragment) (f : Fragment) → Holds fs table n → h ≡ fragmentNumbers f → (k : ℕ) → answer ≡ refuses k
       → fragmentVerdict (length table) (chainsOf fs) f ≡ refused k
-  pub grew : (fs : List Fragment) (f : Fragment) → Holds fs table n → h ≡ headOf f → (n′ : ℕ) → answer ≡ gives n′
+  pub grew : (fs : List Fragment) (f : Fragment) → Holds fs table n → h ≡ fragmentNumbers f → (n′ : ℕ) → answer ≡ gives n′
       → Grown fs f table table′ n n′
 
 -- finding the chains of these fragments, with this answer

@@ -31,7 +31,7 @@ fn placement(title: &[u8], p: [u16; 10]) {
     show::written(title, write_one(p, &mut out), &out);
 }
 
-fn short_output(title: &[u8], p: [u16; 10]) {
+fn placement_into_39(title: &[u8], p: [u16; 10]) {
     let mut out = [0xEEu8; 39];
     show::written(title, write_one(p, &mut out), &out);
 }
@@ -47,19 +47,19 @@ fn placements() {
     );
     placement(b"window id of 256", window);
     show::written(b"the same, no output", write_one(window, &mut []), &[]);
-    short_output(b"crop, into 39", cropped);
+    placement_into_39(b"crop, into 39", cropped);
     placement(b"crop, into 40", cropped);
 }
 
-fn list(title: &[u8], windows: &[[u16; 5]]) {
+fn window_list(title: &[u8], windows: &[[u16; 5]]) {
     let mut out = [0xEEu8; 23];
     show::written(title, encode_wds(1, 2, windows, &mut out), &out);
 }
 
 fn windows() {
-    list(b"WDS, id of 256", &[[256, 100, 980, 16, 8]]);
-    list(b"256 windows", &[[1, 100, 980, 16, 8]; 256]);
-    list(b"one window", &[[1, 100, 980, 16, 8]]);
+    window_list(b"WDS, id of 256", &[[256, 100, 980, 16, 8]]);
+    window_list(b"256 windows", &[[1, 100, 980, 16, 8]; 256]);
+    window_list(b"one window", &[[1, 100, 980, 16, 8]]);
 }
 
 // A fragment with two data bytes.
