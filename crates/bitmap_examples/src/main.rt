@@ -1,5 +1,6 @@
 // Reads small bitmaps and prints a line for each: width/height, the data, the answer, and the whole buffer afterwards, of which only the
 // first `room` bytes were lent.
+#![tactic(auto)]
 use pgs_bitmap_check::bitmap::Decoded;
 
 fn print_bytes(bytes: &[u8]) {

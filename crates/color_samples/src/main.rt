@@ -1,4 +1,5 @@
 // Prints the colours of a few Y, Cb and Cr, and of palettes, for rt to compare with the file stdout.
+#![tactic(auto)]
 use libc::STDOUT_FILENO;
 use pgs_palette::palette::{Looked, Updated};
 

@@ -1,6 +1,7 @@
 // The body reader of 01 in the form that it names: a struct that holds the body and its position. The borrow checker covers no
 // function over such a struct, so each method is proved by a walk of its MIR. A method has no branch: it takes the struct
 // apart and calls a covered function on the body and the position.
+#![tactic(auto)]
 ghost use Rattle.std.specs.Prelude.{◌≡◌, ◌-◌, ◌<◌, length, drop};
 ghost use Rattle.pgs_cursor.specs.Cursor.{outcome, taken_at};
 ghost use Rattle.pgs_body_reader.specs.Reader.{Taking, at_start, left_of, Reads, Rests};

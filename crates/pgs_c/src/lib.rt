@@ -1,6 +1,7 @@
 // The C interface: what include/pgs.h declares.
 // Every function that can refuse answers 0 when the call is accepted, else the refusal's number, and then leaves every other parameter
 // as it was; painting alone has its own rule.
+#![tactic(auto)]
 pub mod bitmap;
 pub mod cards;
 pub mod color;

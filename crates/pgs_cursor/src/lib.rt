@@ -1,2 +1,3 @@
 // The cursor over a body: numbers read one after another.
+#![tactic(auto)]
 pub mod cursor;

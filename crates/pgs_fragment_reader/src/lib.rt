@@ -1,4 +1,5 @@
 // The head and the data of a fragment, read through a body reader.
+#![tactic(auto)]
 ghost use Rattle.std.specs.Prelude.{◌≡◌, drop};
 ghost use Rattle.pgs_fragment_reader.specs.Fragment.{place_from, head_widths, Headed};
 

@@ -1,4 +1,5 @@
 // The objects of a display set and their joined data (01, module 7).
+#![tactic(auto)]
 mod chain;
 mod finding;
 mod joining;

@@ -1,2 +1,3 @@
 // The palette that painting looks colours up in.
+#![tactic(auto)]
 pub mod palette;

@@ -1,2 +1,3 @@
 // The body of a PCS (01, module 3).
+#![tactic(auto)]
 pub mod pcs;

@@ -1,2 +1,3 @@
 // The body of a PDS (01, module 3).
+#![tactic(auto)]
 pub mod pds;

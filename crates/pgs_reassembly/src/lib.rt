@@ -1,5 +1,6 @@
 // Definitions of the objects of a display set and of their joined data, and what follows from them: 01, module 7. `pgs_object` finds,
 // lists and joins them.
+#![tactic(auto)]
 
 // The numbers of a fragment.
 #[derive(Drop)]

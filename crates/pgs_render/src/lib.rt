@@ -1,4 +1,5 @@
 // Painting a display set: 01, module 10.
+#![tactic(auto)]
 mod objects;
 mod painting;
 mod palette;

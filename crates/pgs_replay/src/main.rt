@@ -2,6 +2,7 @@
 // lent memory. rt holds what is printed to the file stdout, which was made from the answers of the published Rust.
 //
 // An input has a head of 7 bytes: which call, the input's length in 2 bytes, two numbers in 2 bytes each; then its bytes.
+#![tactic(auto)]
 mod print;
 mod read;
 mod write;

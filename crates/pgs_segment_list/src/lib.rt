@@ -1,6 +1,7 @@
 // The records of a stream's segments as a lent mutable slice of structs, the form that 01 names. The borrow checker covers slices of
 // numbers and of arrays of numbers, and not slices of structs: `fill` and `parse_segments` are proved by a walk of their MIR.
 // All that decides is in covered functions: `plan_for` finds the answer, `record_at` reads one record.
+#![tactic(auto)]
 ghost use Rattle.std.specs.Prelude.{◌≡◌, ◌+◌, ◌≤◌, length, drop};
 ghost use Rattle.pgs_base.specs.Outcome.{accepted, laid, Delivered};
 ghost use Rattle.pgs_segment.specs.Header.{header_verdict};

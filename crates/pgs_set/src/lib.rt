@@ -1,3 +1,4 @@
 // The display sets of a stream (01, module 6).
+#![tactic(auto)]
 pub mod grouping;
 pub mod set;

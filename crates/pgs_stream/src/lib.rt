@@ -1,2 +1,3 @@
 // The stream: all segments, one after another.
+#![tactic(auto)]
 pub mod stream;

@@ -1,4 +1,5 @@
 // Prints a line for each display set of the stream on standard input (01, 'Bench samples').
+#![tactic(auto)]
 ghost use Rattle.std.specs.Prelude.{◌≡◌, length};
 ghost use Rattle.pgs_cards.specs.Reports.{input_limit};
 ghost use Rattle.setcards.specs.Printing.{Reported};

@@ -1,0 +1,43 @@
+-- `check_rest` meets its contract. The loop's invariant: reading on from this place comes to the same. The measure is what is left of
+-- the data. Assumes nothing.
+use mathlib.Core.Path.{refl, ◌∙◌, sym, ap, subst}
+use Prim.Native.Nat.{◌-◌}
+use native.Mathlib.Omega.{arith}
+use lib.ListN.{length, drop}
+use Rattle.pgs_run_length.specs.NextCode.{code_at}
+use Rattle.pgs_bitmap_check.specs.Bitmap.{read_on}
+use Rattle.pgs_bitmap_check.specs.Progress.{Reached, Stepped}
+use Rattle.pgs_bitmap_check.specs.declared.bitmap.Step.{Step}
+use Rattle.pgs_bitmap_check.specs.declared.bitmap.Step.TheVariants.{To}
+use Rattle.pgs_bitmap_check.proofs.BitmapSteps.{reached-step, reached-end}
+use Rattle.pgs_bitmap_check.proofs.bitmap.check_rest.Goals.{After-after_code-step, In-To}
+use Rattle.pgs_bitmap_check.proofs.bitmap.check_rest.Goals as goal
+
+-- what the code comes to, and in one arm where it leads
+abbrev stepped : (c : After-after_code-step) → Step → Type 0
+stepped c = Stepped c.args.«data».now c.args.width c.args.height c.loop-code.lines c.loop-code.column c.loop-code.at
+
+moved : (c : In-To) → stepped c.before.before.before (To c.in-To.place)
+moved c = subst (stepped c.before.before.before) c.in-To.is c.after_code-step.ensures
+
+pub loop-code-init : goal.loop-code-init
+loop-code-init c = record { within = c.requires.0; few = c.requires.2; narrow = c.requires.1; same = refl }
+
+pub end_of_data-requires : goal.end_of_data-requires
+end_of_data-requires c = (c.loop-code.invariant.few, c.requires.3)
+
+pub returns-in-Nothing : goal.returns-in-Nothing
+returns-in-Nothing c = c.end_of_data.ensures ∙ reached-end c.loop-code.invariant (sym c.next_code-found.ensures ∙ ap code_at c.in-Nothing.is)
+
+pub after_code-step-requires : goal.after_code-step-requires
+after_code-step-requires c = (
+  c.in-Code.ensures,
+  c.loop-code.invariant.within,
+  c.loop-code.invariant.narrow,
+  c.loop-code.invariant.few,
+  c.requires.3,
+
+)
+
+pub returns-in-Refused : goal.returns-in-Refused
+returns-in-Refused c = subst (stepped (goal.at.returns-in-Refused c).After-after_code-step) c.in-Refused.is c.after_code-step.ensures ∙ c.loop-code.invariant.same

@@ -1,0 +1,19 @@
+-- `pixels_at` meets its contract. Assumes nothing.
+use native.Mathlib.Omega.{arith}
+use Rattle.pgs_run_length.proofs.LiteralBytes.{literals-one, literals-next}
+use Rattle.pgs_bitmap_check.proofs.UntestedWidth.{onward-none, onward-pixel}
+use Rattle.pgs_bitmap_check.proofs.LiteralStretch.{onward-literals}
+use Rattle.pgs_bitmap_check.proofs.bitmap.pixels_at.Goals as goal
+
+pub returns-then-data-at-eq0 : goal.returns-then-data-at-eq0
+returns-then-data-at-eq0 c = (omega arith, onward-none)
+
+pub returns-then-data-at-eq0-2 : goal.returns-then-data-at-eq0-2
+returns-then-data-at-eq0-2 c = (omega arith, onward-pixel (omega arith) c.if-data-at-eq0.false onward-none)
+
+pub returns : goal.returns
+returns c =
+    let s = c in
+    let l = s.args.«data».now in
+    let at = s.args.at in
+    (omega arith, onward-literals 2 (literals-next l at 1 (literals-one l at c.if-data-at-eq0.false) c.if-data-at-eq0-2.false) (omega arith))

@@ -1,0 +1,41 @@
+-- `fill_placements` stores the placements from the list's front: the loop keeps `Filling`.
+-- Assumes nothing.
+use Prim.Native.Nat.{ℕ, ◌-◌}
+use Rattle.pgs_base.proofs.Lists.{to_end}
+use Rattle.pgs_records.proofs.RecordLaws.{Filling, filling, next_fits, turn, stored-rows}
+use Rattle.pgs_pcs.specs.PcsBody.{placement_of, placement_size, placement_row}
+use Rattle.pgs_records.specs.Records.{records}
+use borrow.Author.Rules.{scaled_Fits}
+use lib.ListN.{length, drop}
+use mathlib.Core.List.{List}
+use mathlib.Core.Path.{ap, ◌∙◌}
+use native.Mathlib.Omega.{arith}
+use Rattle.pgs_pcs.proofs.pcs.fill_placements.Invariants.{row}
+use Rattle.pgs_pcs.proofs.pcs.fill_placements.Goals as goal
+
+pub loop-i-init : goal.loop-i-init
+loop-i-init c = filling row placement_size c.args.body.now c.args.n 11 c.args.list.now c.requires.in_bounds c.requires.body_value
+
+pub slice_bounds-placement_size-count : goal.slice_bounds-placement_size-count
+slice_bounds-placement_size-count c = c.loop-i.invariant.inside
+
+pub slice_bounds-placement_size-start : goal.slice_bounds-placement_size-start
+slice_bounds-placement_size-start c = omega (arith, c.loop-i.invariant.inside)
+
+pub slice_bounds-read-count : goal.slice_bounds-read-count
+slice_bounds-read-count c = c.loop-i.invariant.inside
+
+pub slice_bounds-read-start : goal.slice_bounds-read-start
+slice_bounds-read-start c = omega (arith, c.loop-i.invariant.inside)
+
+pub bounds-list-i : goal.bounds-list-i
+bounds-list-i c = omega (arith, c.loop-i.invariant.front.same)
+
+pub overflow_add-at : goal.overflow_add-at
+overflow_add-at c = rw (c.placement_size-size.ensures ∙ ap placement_size (to_end c.loop-i.at c.args.body.now)) (record { fits = omega (arith, next_fits _ _ _ _ c.loop-i.invariant c.loop-i-test.true) })
+
+pub loop-i-preserved : goal.loop-i-preserved
+loop-i-preserved c = rw (c.placement_size-size.ensures ∙ ap placement_size (to_end c.loop-i.at c.args.body.now)) (turn row placement_size _ _ c.loop-i.invariant c.loop-i-test.true c.«record».result (c.«record».ensures ∙ ap placement_row (c.read.ensures ∙ ap placement_of (to_end c.loop-i.at c.args.body.now))) c.requires.n_in_bounds)
+
+pub returns : goal.returns
+returns c = stored-rows placement_row placement_of placement_size _ _ _ c.loop-i.invariant c.loop-i-test.false
