@@ -3,7 +3,7 @@ ghost use Rattle.std.specs.Prelude.{◌≡◌};
 ghost use Rattle.pgs_base.specs.Refusals.{number_of};
 
 // Each variant's comment has its number and 01's word for it.
-#[derive(Drop)]
+#[derive(Clone, Copy)]
 pub enum Refusal {
     // 1, short head
     TruncatedHeader,

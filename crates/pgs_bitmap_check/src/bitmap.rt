@@ -12,21 +12,21 @@ use pgs_base::refusal::Refusal;
 use pgs_run_length::code::{CodeAt, NextCode, eight_literals, long_count, next_code, short_count};
 
 // What reading a bitmap comes to.
-#[derive(Drop)]
+#[derive(Clone, Copy)]
 pub enum Decoded {
     Accepted,
     Refused(Refusal),
 }
 
 // Where reading stands after a code: the lines ended, the pixels after them, the place of the next code.
-#[derive(Drop)]
+#[derive(Clone, Copy)]
 struct Place {
     lines: usize,
     column: usize,
     at: usize,
 }
 
-#[derive(Drop)]
+#[derive(Clone, Copy)]
 enum Step {
     To(Place),
     Refused(Refusal),
@@ -187,7 +187,7 @@ fn literals_from(data: &[u8], at: usize) -> usize
 }
 
 // Where reading stands in a line after some codes: its pixels, which may be more than the width, and the place of the next code.
-#[derive(Drop)]
+#[derive(Clone, Copy)]
 struct Mark {
     column: usize,
     at: usize,

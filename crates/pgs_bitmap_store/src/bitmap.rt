@@ -46,7 +46,7 @@ fn fill_short(pixels: &mut [u8], from: usize, count: usize, color: u8)
 }
 
 // How far storing has come: the place of the next code, and that of its first pixel.
-#[derive(Drop)]
+#[derive(Clone, Copy)]
 struct Spot {
     at: usize,
     out: usize,

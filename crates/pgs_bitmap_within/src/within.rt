@@ -8,7 +8,7 @@ ghost use Rattle.pgs_bitmap_within.specs.Storing.{Ahead, Room};
 use pgs_run_length::code::{CodeAt, NextCode, next_code};
 
 // Pixels of one color, and the bytes of data that tell them.
-#[derive(Drop)]
+#[derive(Clone, Copy)]
 struct RunAhead {
     count: usize,
     color: u8,

@@ -6,7 +6,7 @@ use pgs_ods::ods::Ods;
 use pgs_segment::segment::SegmentBody;
 use pgs_views::fragment_flag::FragmentFlag;
 
-#[derive(Drop)]
+#[derive(Clone, Copy)]
 pub(crate) struct Card {
     // the place of the set's PCS in the stream
     pub place: usize,

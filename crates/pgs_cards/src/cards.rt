@@ -15,7 +15,7 @@ use pgs_set::set::SetsAnswer;
 pub const PLACE_LIMIT: usize = 4294967296;
 
 // How many bytes were written, or why none.
-#[derive(Drop)]
+#[derive(Clone, Copy)]
 pub enum CardsAnswer {
     Written(usize),
     Refused(Refusal),

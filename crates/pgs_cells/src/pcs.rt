@@ -7,7 +7,7 @@ use pgs_base::refusal::Refusal;
 use pgs_pcs::pcs::Pcs;
 
 // The numbers, or 35 for a cell that is too large for its field.
-#[derive(Drop)]
+#[derive(Clone, Copy)]
 pub enum PcsNumbers {
     Numbers(Pcs),
     Refused(Refusal),

@@ -17,13 +17,13 @@ use pgs_ods::ods::{Dimensions, Ods};
 use pgs_records::BodyList;
 
 // The numbers, or 35 for a cell that is too large for its field, but for the declared length, which the writer tests.
-#[derive(Drop)]
+#[derive(Clone, Copy)]
 pub enum OdsNumbers {
     Numbers(Ods),
     Refused(Refusal),
 }
 
-#[derive(Drop)]
+#[derive(Clone, Copy)]
 enum DimensionsGiven {
     Given(Dimensions),
     Refused(Refusal),

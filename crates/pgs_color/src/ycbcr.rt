@@ -4,7 +4,7 @@ ghost use Rattle.pgs_color.specs.Sums.{sums_of};
 ghost use Rattle.pgs_color.specs.Bytes.{byte_of, rgb_of, clamped_of};
 
 // The three channel sums before clamping, which travel together.
-#[derive(Drop)]
+#[derive(Clone, Copy)]
 pub struct ChannelSums {
     pub r: f32,
     pub g: f32,
@@ -12,7 +12,7 @@ pub struct ChannelSums {
 }
 
 // One opaque colour.
-#[derive(Drop)]
+#[derive(Clone, Copy)]
 pub struct Rgb8 {
     pub r: u8,
     pub g: u8,

@@ -6,13 +6,13 @@ ghost use Rattle.pgs_cursor.specs.Cursor.{outcome, taken_at};
 use pgs_base::number::{u16_of, u24_of};
 use pgs_base::refusal::Refusal;
 
-#[derive(Drop)]
+#[derive(Clone, Copy)]
 pub struct BodyCursor {
     pub pos: usize,
 }
 
 // A number that was read with the cursor just after it, or why there is none.
-#[derive(Drop)]
+#[derive(Clone, Copy)]
 pub enum Taken {
     Number(u32, BodyCursor),
     Refused(Refusal),

@@ -27,7 +27,7 @@ use pgs_views::segment_type::SegmentType;
 // is copied, 7 the place of its first segment, 8 the place of that segment's data, 9 the joined length.
 
 // How many chains there are, or why a fragment is refused.
-#[derive(Drop)]
+#[derive(Clone, Copy)]
 pub(crate) enum ChainsAnswer {
     Chains(usize),
     Refused(Refusal),

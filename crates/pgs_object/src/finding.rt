@@ -21,7 +21,7 @@ use pgs_segment::header::header_at;
 use pgs_set::set::{SetAnswer, SetsAnswer, find_set};
 
 // How many objects a set has, and how many bytes of a scratch they take, or why it is refused.
-#[derive(Drop)]
+#[derive(Clone, Copy)]
 pub(crate) enum FoundAnswer {
     Found(usize, usize),
     Refused(Refusal),

@@ -15,7 +15,7 @@ ghost use Rattle.pgs_object.specs.Answers.{joined_outcome};
 use pgs_base::refusal::Refusal;
 
 // How many bytes the chains that are copied take, or why one is refused.
-#[derive(Drop)]
+#[derive(Clone, Copy)]
 pub(crate) enum JoinedAnswer {
     Joined(usize),
     Refused(Refusal),

@@ -15,7 +15,7 @@ use pgs_set::set::{SetsAnswer, group_display_sets};
 pub const OBJECT_LIMIT: usize = 64;
 
 // How many objects a set has, or why it is refused.
-#[derive(Drop)]
+#[derive(Clone, Copy)]
 pub enum ObjectsAnswer {
     Objects(usize),
     Refused(Refusal),

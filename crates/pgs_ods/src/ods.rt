@@ -17,14 +17,14 @@ use pgs_records::{BodyList, Checked};
 use pgs_views::fragment_flag::FragmentFlag;
 
 // Width and height, which only a first fragment has.
-#[derive(Drop)]
+#[derive(Clone, Copy)]
 pub enum Dimensions {
     Absent,
     Present(u16, u16),
 }
 
 // The numbers of an ODS; its data stands in the body.
-#[derive(Drop)]
+#[derive(Clone, Copy)]
 pub struct Ods {
     pub object_id: u16,
     pub object_version_number: u8,
@@ -34,7 +34,7 @@ pub struct Ods {
 }
 
 // The numbers and where the data stands, or why there are none.
-#[derive(Drop)]
+#[derive(Clone, Copy)]
 pub enum OdsAnswer {
     Fragment(Ods, BodyList),
     Refused(Refusal),

@@ -11,7 +11,7 @@ use pgs_pcs::pcs::{CompositionObject, CompositionObjectCrop, Cropping};
 use pgs_plane::plane::Painted;
 
 // The pixels of a placement that are on the plane: where they begin there and in the object, and how many columns and rows they have.
-#[derive(Drop)]
+#[derive(Clone, Copy)]
 struct Shown {
     x: usize,
     y: usize,

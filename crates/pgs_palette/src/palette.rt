@@ -9,7 +9,7 @@ use pgs_base::refusal::Refusal;
 use pgs_color::ycbcr::ycbcr709_to_rgb;
 
 // A colour with its alpha, which is not multiplied in.
-#[derive(Drop)]
+#[derive(Clone, Copy)]
 pub struct Rgba8 {
     pub r: u8,
     pub g: u8,
@@ -18,14 +18,14 @@ pub struct Rgba8 {
 }
 
 // What comes of a call that changes a table.
-#[derive(Drop)]
+#[derive(Clone, Copy)]
 pub enum Updated {
     Done,
     Refused(Refusal),
 }
 
 // What comes of a look-up.
-#[derive(Drop)]
+#[derive(Clone, Copy)]
 pub enum Looked {
     Color(Rgba8),
     Refused(Refusal),

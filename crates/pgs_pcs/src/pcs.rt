@@ -22,7 +22,7 @@ use pgs_fields::{u8_at, u16_at};
 use pgs_records::{BodyList, Checked};
 
 // The part of an object that a placement shows.
-#[derive(Drop)]
+#[derive(Clone, Copy)]
 pub struct CompositionObjectCrop {
     pub horizontal_position: u16,
     pub vertical_position: u16,
@@ -31,14 +31,14 @@ pub struct CompositionObjectCrop {
 }
 
 // A crop, which only a placement with the flag 40 has.
-#[derive(Drop)]
+#[derive(Clone, Copy)]
 pub enum Cropping {
     Uncropped,
     Cropped(CompositionObjectCrop),
 }
 
 // One placement: an object at a position on the plane.
-#[derive(Drop)]
+#[derive(Clone, Copy)]
 pub struct CompositionObject {
     pub object_id: u16,
     pub window_id: u8,
@@ -49,7 +49,7 @@ pub struct CompositionObject {
 }
 
 // The numbers of a PCS; its placements stand in a list.
-#[derive(Drop)]
+#[derive(Clone, Copy)]
 pub struct Pcs {
     pub width: u16,
     pub height: u16,
@@ -61,7 +61,7 @@ pub struct Pcs {
 }
 
 // The numbers and how many placements were stored, or why none.
-#[derive(Drop)]
+#[derive(Clone, Copy)]
 pub enum PcsAnswer {
     Placements(Pcs, usize),
     Refused(Refusal),

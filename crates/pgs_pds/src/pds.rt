@@ -20,7 +20,7 @@ use pgs_fields::u8_at;
 use pgs_records::{BodyList, Checked};
 
 // One entry of a palette: YCbCr with alpha.
-#[derive(Drop)]
+#[derive(Clone, Copy)]
 pub struct PaletteEntry {
     pub palette_entry_id: u8,
     pub y: u8,
@@ -30,14 +30,14 @@ pub struct PaletteEntry {
 }
 
 // The numbers of a PDS; its entries stand in a list.
-#[derive(Drop)]
+#[derive(Clone, Copy)]
 pub struct Pds {
     pub palette_id: u8,
     pub palette_version_number: u8,
 }
 
 // The numbers and how many entries were stored, or why none.
-#[derive(Drop)]
+#[derive(Clone, Copy)]
 pub enum PdsAnswer {
     Entries(Pds, usize),
     Refused(Refusal),

@@ -4,7 +4,7 @@ ghost use Rattle.pgs_plane.specs.Calls.{Clears};
 use pgs_base::refusal::Refusal;
 
 // What comes of a call that changes a plane.
-#[derive(Drop)]
+#[derive(Clone, Copy)]
 pub enum Painted {
     Done,
     Refused(Refusal),

@@ -3,7 +3,7 @@
 #![tactic(auto)]
 
 // The numbers of a fragment.
-#[derive(Drop)]
+#[derive(Clone, Copy)]
 pub struct FragmentNumbers {
     pub id: usize,
     pub version: usize,

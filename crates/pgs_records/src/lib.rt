@@ -3,7 +3,7 @@
 use pgs_base::refusal::Refusal;
 
 // The part of a body that holds its records (placements, windows, entries) or its data bytes.
-#[derive(Drop)]
+#[derive(Clone, Copy)]
 pub struct BodyList {
     // how many records; 0 where the part holds data bytes
     pub count: usize,
@@ -14,7 +14,7 @@ pub struct BodyList {
 }
 
 // A body that was tested: where its list stands, or why it is refused.
-#[derive(Drop)]
+#[derive(Clone, Copy)]
 pub enum Checked {
     List(BodyList),
     Refused(Refusal),

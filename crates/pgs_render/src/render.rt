@@ -37,7 +37,7 @@ use pgs_set::set::{SetAnswer, find_set};
 const PLACEMENT_LIMIT: usize = 255;
 
 // The width and the height of the plane and the PTS of the PCS, or why nothing is shown.
-#[derive(Drop)]
+#[derive(Clone, Copy)]
 pub enum RenderAnswer {
     Shown(u16, u16, u32),
     Refused(Refusal),

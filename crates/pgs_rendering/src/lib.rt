@@ -2,7 +2,7 @@
 #![tactic(auto)]
 
 // Where an object's bitmap stands in the scratch.
-#[derive(Drop)]
+#[derive(Clone, Copy)]
 pub struct Bitmap {
     pub width: u16,
     pub height: u16,

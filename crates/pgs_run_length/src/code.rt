@@ -8,7 +8,7 @@ ghost use Rattle.pgs_run_length.specs.Literals.{literals};
 use pgs_base::refusal::Refusal;
 
 // The code at a place of the data, with the number of bytes that it took, or why it is none.
-#[derive(Drop)]
+#[derive(Clone, Copy)]
 pub enum NextCode {
     Run {
         count: usize,
@@ -20,7 +20,7 @@ pub enum NextCode {
 }
 
 // What stands at a place of the data: nothing at its end or past it, else a code or why it is none.
-#[derive(Drop)]
+#[derive(Clone, Copy)]
 pub enum CodeAt {
     Nothing,
     Code(NextCode),
@@ -34,7 +34,7 @@ fn wide(x: u8) -> usize
 }
 
 // A run of pixels of one color, and the bytes that its code takes.
-#[derive(Drop)]
+#[derive(Clone, Copy)]
 struct Run {
     count: usize,
     color: u8,

@@ -5,7 +5,7 @@ ghost use Rattle.pgs_segment.specs.Header.{header_fields, header_outcome, header
 use pgs_base::refusal::Refusal;
 use pgs_fields::{u8_at, u16_at, u32_at};
 
-#[derive(Drop)]
+#[derive(Clone, Copy)]
 pub struct SegmentHeader {
     pub pts: u32,
     pub dts: u32,
@@ -13,7 +13,7 @@ pub struct SegmentHeader {
     pub segment_size: u16,
 }
 
-#[derive(Drop)]
+#[derive(Clone, Copy)]
 pub enum HeaderAnswer {
     Header(SegmentHeader),
     Refused(Refusal),

@@ -21,7 +21,7 @@ use pgs_views::segment_type::SegmentType;
 use pgs_wds::wds::check_wds;
 
 // The kind of a body with its numbers; its list or data stands in the body.
-#[derive(Drop)]
+#[derive(Clone, Copy)]
 pub enum SegmentBody {
     Pcs(Pcs),
     Wds,
@@ -31,27 +31,27 @@ pub enum SegmentBody {
     Other(u8),
 }
 
-#[derive(Drop)]
+#[derive(Clone, Copy)]
 pub enum BodyAnswer {
     Body(SegmentBody, BodyList),
     Refused(Refusal),
 }
 
 // A head, and where the list of the body stands that follows it.
-#[derive(Drop)]
+#[derive(Clone, Copy)]
 pub struct Frame {
     pub header: SegmentHeader,
     pub list: BodyList,
 }
 
-#[derive(Drop)]
+#[derive(Clone, Copy)]
 pub enum FrameAnswer {
     Framed(Frame),
     Refused(Refusal),
 }
 
 // One segment: its body starts 13 bytes after its own start, and the whole takes `used` bytes.
-#[derive(Drop)]
+#[derive(Clone, Copy)]
 pub struct Segment {
     pub header: SegmentHeader,
     pub body: SegmentBody,
@@ -59,7 +59,7 @@ pub struct Segment {
     pub used: usize,
 }
 
-#[derive(Drop)]
+#[derive(Clone, Copy)]
 pub enum SegmentAnswer {
     Segment(Segment),
     Refused(Refusal),

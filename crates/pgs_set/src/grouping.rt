@@ -7,14 +7,14 @@ use pgs_base::refusal::Refusal;
 use pgs_views::segment_type::SegmentType;
 
 // Whether a set is open, and whether it has a WDS.
-#[derive(Drop)]
+#[derive(Clone, Copy)]
 pub enum Grouping {
     Outside,
     Inside(bool),
 }
 
 // The state after a segment, or why the segment is refused.
-#[derive(Drop)]
+#[derive(Clone, Copy)]
 pub enum GroupStep {
     On(Grouping),
     Refused(Refusal),

@@ -22,14 +22,14 @@ use pgs_stream::stream::{StreamAnswer, count_segments};
 use pgs_views::segment_type::SegmentType;
 
 // How many sets a stream has, or why it is refused.
-#[derive(Drop)]
+#[derive(Clone, Copy)]
 pub enum SetsAnswer {
     Sets(usize),
     Refused(Refusal),
 }
 
 // The record of one set (place of its PCS, place just after its END, PTS of the PCS), or why there is none.
-#[derive(Drop)]
+#[derive(Clone, Copy)]
 pub enum SetAnswer {
     Set(usize, usize, u32),
     Refused(Refusal),

@@ -14,7 +14,7 @@ use pgs_segment::header::{HeaderAnswer, SegmentHeader};
 use pgs_segment::segment::{FrameAnswer, check_segment};
 
 // How many segments a stream has, or why it is refused.
-#[derive(Drop)]
+#[derive(Clone, Copy)]
 pub enum StreamAnswer {
     Segments(usize),
     Refused(Refusal),

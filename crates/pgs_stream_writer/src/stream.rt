@@ -14,7 +14,7 @@ use pgs_stream::stream::{StreamAnswer, count_segments};
 use pgs_writer_base::head::WriteAnswer;
 
 // How many writes were accepted and how many bytes they take, or why the stream is refused.
-#[derive(Drop)]
+#[derive(Clone, Copy)]
 pub enum WritesAnswer {
     Writes(usize, usize),
     Refused(Refusal),

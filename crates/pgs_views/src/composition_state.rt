@@ -2,7 +2,7 @@
 ghost use Rattle.std.specs.Prelude.{◌≡◌};
 ghost use Rattle.pgs_views.specs.States.{state_of, raw_state};
 
-#[derive(Drop)]
+#[derive(Clone, Copy)]
 pub enum CompositionState {
     Normal,
     AcquisitionPoint,

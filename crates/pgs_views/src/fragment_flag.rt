@@ -2,7 +2,7 @@
 ghost use Rattle.std.specs.Prelude.{◌≡◌};
 ghost use Rattle.pgs_views.specs.Fragments.{fragment_of, raw_fragment, is_first, is_last};
 
-#[derive(Drop)]
+#[derive(Clone, Copy)]
 pub enum FragmentFlag {
     First,
     Last,

@@ -1,5 +1,6 @@
 // The kind, state and flag bytes of segments, as typed views.
 #![tactic(auto)]
+
 pub mod composition_state;
 pub mod fragment_flag;
 pub mod palette_update;

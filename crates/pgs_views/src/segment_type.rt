@@ -2,7 +2,7 @@
 ghost use Rattle.std.specs.Prelude.{◌≡◌};
 ghost use Rattle.pgs_views.specs.Kinds.{type_of, raw_of};
 
-#[derive(Drop)]
+#[derive(Clone, Copy)]
 pub enum SegmentType {
     Pds,
     Ods,

@@ -18,7 +18,7 @@ use pgs_base::refusal::Refusal;
 use pgs_fields::{u8_at, u16_at};
 use pgs_records::{BodyList, Checked};
 
-#[derive(Drop)]
+#[derive(Clone, Copy)]
 pub struct Window {
     pub window_id: u8,
     pub horizontal_position: u16,
@@ -28,7 +28,7 @@ pub struct Window {
 }
 
 // How many windows were stored, or why none.
-#[derive(Drop)]
+#[derive(Clone, Copy)]
 pub enum WdsAnswer {
     Windows(usize),
     Refused(Refusal),
@@ -95,7 +95,7 @@ fn fill_windows(body: &[u8], n: usize, list: &mut [[u16; 5]])
     }
 }
 
-#[derive(Drop)]
+#[derive(Clone, Copy)]
 pub struct Wds {}
 
 impl Wds {

@@ -8,7 +8,7 @@ use crate::put::{put_u8, put_u16, put_u32};
 use pgs_base::refusal::Refusal;
 
 // How many bytes were written, or why none.
-#[derive(Drop)]
+#[derive(Clone, Copy)]
 pub enum WriteAnswer {
     Written(usize),
     Refused(Refusal),
