@@ -30,3 +30,9 @@ pass_run-requires c = (c.requires.2, omega (arith, (taken_at c.args.«data».now
 
 pub end_line-requires : goal.end_line-requires
 end_line-requires c = (line-end-here (goal.at.end_line-requires c).In-LineEnd, c.requires.1, c.requires.2, c.requires.3, c.requires.4)
+
+pub returns-in-Run : goal.returns-in-Run
+returns-in-Run c = ran-stepped c.pass_run.result (here (goal.at.returns-in-Run c).Start) (run-here (goal.at.returns-in-Run c).In-Run) c.pass_run.ensures
+
+pub returns-in-Truncated : goal.returns-in-Truncated
+returns-in-Truncated c = reached-truncated (here (goal.at.returns-in-Truncated c).Start) (sym c.requires.0 ∙ ap first_code c.in-Truncated.is)

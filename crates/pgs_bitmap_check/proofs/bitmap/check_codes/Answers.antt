@@ -23,13 +23,6 @@ room c = (omega (arith, c.loop-at-test.true, c.places-limit.ensures.0), omega (a
 narrow : (c : Else-width-column) → c.loop-at.column ≤ c.args.width
 narrow c = omega (arith, c.if-width-column.false)
 
--- what the end of a line comes to, and in one arm where it leads
-abbrev stepped : (c : After-end_line-step) → Step → Type 0
-stepped c = Stepped c.args.«data».now c.args.width c.args.height c.loop-at.lines c.loop-at.column c.loop-at.at
-
-moved : (c : In-To) → stepped c.before.before.before (To c.in-To.place)
-moved c = subst (stepped c.before.before.before) c.in-To.is c.end_line-step.ensures
-
 pub loop-at-init : goal.loop-at-init
 loop-at-init c = (untested-reached (reached-start _ _ _), omega arith)
 
@@ -83,9 +76,16 @@ end_line-step-requires c =
       c.requires.1,
     )
 
+pub loop-at-smaller : goal.loop-at-smaller
+loop-at-smaller c = omega (arith, c.in-To.ensures.0, c.in-To.ensures.1.within)
+
+pub loop-at-preserved : goal.loop-at-preserved
+loop-at-preserved c =
+    (untested-reached (reached-step (reached-tested c.loop-at.invariant.0 (narrow (goal.at.loop-at-preserved c).Else-width-column)) c.in-To.ensures.1), omega (arith, c.in-To.ensures.0, c.in-To.ensures.1.narrow, c.requires.0))
+
 pub returns-in-Refused : goal.returns-in-Refused
 returns-in-Refused c =
-    subst (stepped (goal.at.returns-in-Refused c).After-end_line-step) c.in-Refused.is c.end_line-step.ensures ∙ (reached-tested c.loop-at.invariant.0 (narrow (goal.at.returns-in-Refused c).Else-width-column)).same
+    c.in-Refused.ensures ∙ (reached-tested c.loop-at.invariant.0 (narrow (goal.at.returns-in-Refused c).Else-width-column)).same
 
 pub returns-then-width-column-2 : goal.returns-then-width-column-2
 returns-then-width-column-2 c = c.loop-at.invariant.0.past c.if-width-column-2.true

@@ -13,13 +13,6 @@ use Rattle.pgs_bitmap_check.proofs.BitmapSteps.{reached-step, reached-end}
 use Rattle.pgs_bitmap_check.proofs.bitmap.check_rest.Goals.{After-after_code-step, In-To}
 use Rattle.pgs_bitmap_check.proofs.bitmap.check_rest.Goals as goal
 
--- what the code comes to, and in one arm where it leads
-abbrev stepped : (c : After-after_code-step) → Step → Type 0
-stepped c = Stepped c.args.«data».now c.args.width c.args.height c.loop-code.lines c.loop-code.column c.loop-code.at
-
-moved : (c : In-To) → stepped c.before.before.before (To c.in-To.place)
-moved c = subst (stepped c.before.before.before) c.in-To.is c.after_code-step.ensures
-
 pub loop-code-init : goal.loop-code-init
 loop-code-init c = record { within = c.requires.0; few = c.requires.2; narrow = c.requires.1; same = refl }
 
@@ -39,5 +32,11 @@ after_code-step-requires c = (
 
 )
 
+pub loop-code-smaller : goal.loop-code-smaller
+loop-code-smaller c = omega (arith, c.in-To.ensures.0, c.in-To.ensures.1.within)
+
+pub loop-code-preserved : goal.loop-code-preserved
+loop-code-preserved c = reached-step c.loop-code.invariant c.in-To.ensures.1
+
 pub returns-in-Refused : goal.returns-in-Refused
-returns-in-Refused c = subst (stepped (goal.at.returns-in-Refused c).After-after_code-step) c.in-Refused.is c.after_code-step.ensures ∙ c.loop-code.invariant.same
+returns-in-Refused c = c.in-Refused.ensures ∙ c.loop-code.invariant.same

@@ -13,7 +13,6 @@ returns-then-data-at-eq0-2 c = (omega arith, onward-pixel (omega arith) c.if-dat
 
 pub returns : goal.returns
 returns c =
-    let s = c in
-    let l = s.args.«data».now in
-    let at = s.args.at in
+    let l = c.args.«data».now in
+    let at = c.args.at in
     (omega arith, onward-literals 2 (literals-next l at 1 (literals-one l at c.if-data-at-eq0.false) c.if-data-at-eq0-2.false) (omega arith))

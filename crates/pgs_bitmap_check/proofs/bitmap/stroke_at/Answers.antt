@@ -9,9 +9,8 @@ returns-then-data-at-eq0 c = (omega arith, onward-none)
 
 pub returns-then-short_color_at : goal.returns-then-short_color_at
 returns-then-short_color_at c =
-    let s = c in
-    let l = s.args.«data».now in
-    let at = s.args.at in
+    let l = c.args.«data».now in
+    let at = c.args.at in
     let color = c.short_color_at.ensures c.if-short_color_at.true in (
       omega (arith, c.short_count.ensures, c.pixels_at.ensures.0),
       onward-pixel (omega arith) c.if-data-at-eq0.false

@@ -19,3 +19,13 @@ bounds-table-at-3 c = simp length-set (omega (arith, c.wide-at.ensures))
 
 pub bounds-table-at-4 : goal.bounds-table-at-4
 bounds-table-at-4 c = simp length-set (omega (arith, c.wide-at.ensures))
+
+pub returns : goal.returns
+returns c =
+    let t = c.args.table.now in
+    let e = entry_of c.args.entry in
+    let id = c.wide-at.ensures.0 in
+    let below : e.entry_id < 256 = omega (arith, c.wide-at.ensures) in
+    stored-pixel t (c.wide-at.result * 4) c.to_rgba-c.result
+    ∙ (λ i. sets t (id i * 4) (pixel_of (c.to_rgba-c.ensures i)))
+    ∙ sym (laid_one rgb_of e t c.requires below)

@@ -1,0 +1,37 @@
+-- `Segment::parse` gives what `check_segment` found and the body's numbers.
+-- Assumes nothing.
+use Prim.Native.Nat.{ℕ, ◌+◌}
+use Rattle.pgs_base.proofs.Outcomes.{gave, gave-value, turned_down, gives_as, refuses-as}
+use Rattle.pgs_base.specs.Outcome.{gives, outcome_of, accepted}
+use Rattle.pgs_segment.proofs.SegmentLaws.{lent-numbers, accepted-size}
+use Rattle.pgs_segment.specs.Header.{size_of, kind_of}
+use Rattle.pgs_views.specs.Kinds.{type_of}
+use Rattle.pgs_segment.specs.OneSegment.{segment_verdict, frame_of, frame_outcome, segment_of}
+use Rattle.pgs_segment.specs.declared.segment.Frame.{Frame}
+use mathlib.Core.List.{List}
+use mathlib.Core.Path.{◌≡◌, sym, ap, ◌∙◌}
+use native.Mathlib.Omega.{arith}
+use Rattle.pgs_segment.proofs.segment.Segment.parse.Goals as goal
+
+module _ (l : List ℕ) {f : Frame} (e : gives f ≡ outcome_of (segment_verdict l) (frame_of l)) where
+  -- a segment was found: it is accepted, and the frame is the list's
+  ok : segment_verdict l ≡ accepted
+  ok = gave (segment_verdict l) (frame_of l) e
+
+  frame_is : f ≡ frame_of l
+  frame_is = gave-value (segment_verdict l) (frame_of l) e
+
+  size_is : f.header.segment_size ≡ size_of l
+  size_is = ap (λ (x : Frame). x.header.segment_size) frame_is
+
+  kind-is : f.header.segment_type ≡ kind_of l
+  kind-is = ap (λ (x : Frame). x.header.segment_type) frame_is
+
+pub slice_bounds-numbers-end : goal.slice_bounds-numbers-end
+slice_bounds-numbers-end c = let l = c.args.buf.now in omega (arith, accepted-size l (ok l (c.in-Framed.ensures)), size_is l (c.in-Framed.ensures))
+
+pub returns-in-Refused : goal.returns-in-Refused
+returns-in-Refused c = let l = c.args.buf.now in refuses-as (segment_of l) (turned_down (segment_verdict l) (frame_of l) (c.in-Refused.ensures))
+
+pub returns-in-Framed : goal.returns-in-Framed
+returns-in-Framed c = let l = c.args.buf.now in let e = (c.in-Framed.ensures) in gives_as (ok l e) (λ j. record { header = (frame_is l e j).header; body = lent-numbers l (c.from_raw-kind.ensures ∙ ap type_of (kind-is l e)) (size_is l e) c.numbers-body.ensures j; list = (frame_is l e j).list; used = 13 + size_is l e j })

@@ -1,0 +1,45 @@
+-- `check_segment` tests the head, the size and the body, in this order.
+-- Assumes nothing.
+use Prim.Native.Nat.{ℕ}
+use Rattle.pgs_base.proofs.Outcomes.{gave, gave-value, turned_down, gives_as, refuses-as}
+use Rattle.pgs_base.specs.Outcome.{gives, outcome_of, accepted}
+use Rattle.pgs_segment.proofs.SegmentLaws.{has-header, head-decides, body-past-end, body-decides, lent-body}
+use Rattle.pgs_records.specs.Checks.{checked_outcome}
+use Rattle.pgs_segment.specs.Fields.{body_verdict, body_list}
+use Rattle.pgs_segment.specs.Header.{header_outcome, header_verdict, header_fields, size_of, kind_of}
+use Rattle.pgs_views.specs.Kinds.{type_of}
+use Rattle.pgs_segment.specs.OneSegment.{segment_type, body_at, frame_of}
+use Rattle.pgs_segment.specs.declared.header.SegmentHeader.{SegmentHeader}
+use mathlib.Core.List.{List}
+use mathlib.Core.Path.{◌≡◌, sym, ap, ◌∙◌}
+use native.Mathlib.Omega.{arith}
+use Rattle.pgs_segment.proofs.segment.check_segment.Goals as goal
+
+module _ (l : List ℕ) {h : SegmentHeader} (e : gives h ≡ outcome_of (header_verdict l) (header_fields l)) where
+  -- a head was given: it is accepted, and its kind and size are the list's
+  ok : header_verdict l ≡ accepted
+  ok = gave (header_verdict l) (header_fields l) e
+
+  size_is : h.segment_size ≡ size_of l
+  size_is = ap (λ (x : SegmentHeader). x.segment_size) (gave-value (header_verdict l) (header_fields l) e)
+
+  kind-is : h.segment_type ≡ kind_of l
+  kind-is = ap (λ (x : SegmentHeader). x.segment_type) (gave-value (header_verdict l) (header_fields l) e)
+
+pub overflow_sub-buf : goal.overflow_sub-buf
+overflow_sub-buf c = has-header c.args.buf.now (ok c.args.buf.now (c.in-Header.ensures))
+
+pub returns-then-buf-size : goal.returns-then-buf-size
+returns-then-buf-size c = let l = c.args.buf.now in let e = (c.in-Header.ensures) in refuses-as (frame_of l) (body-past-end l (ok l e) (rw (← size_is l e) c.if-buf-size.true))
+
+pub slice_bounds-check_body-end : goal.slice_bounds-check_body-end
+slice_bounds-check_body-end c = let l = c.args.buf.now in omega (arith, has-header l (ok l (c.in-Header.ensures)), c.if-buf-size.false)
+
+pub returns-in-Refused : goal.returns-in-Refused
+returns-in-Refused c = let l = c.args.buf.now in refuses-as (frame_of l) (head-decides l (turned_down (header_verdict l) (header_fields l) (c.in-Refused.ensures)))
+
+pub returns-in-Refused-check_body : goal.returns-in-Refused-check_body
+returns-in-Refused-check_body c = let l = c.args.buf.now in let e = (c.in-Header.ensures) in refuses-as (frame_of l) (body-decides l (ok l e) (rw (← size_is l e) c.if-buf-size.false) ∙ turned_down (body_verdict (segment_type l) (body_at l)) (body_list (segment_type l) (body_at l)) (lent-body l (c.from_raw-kind.ensures ∙ ap type_of (kind-is l e)) (size_is l e) (c.in-Refused-check_body.ensures)))
+
+pub returns-in-List : goal.returns-in-List
+returns-in-List c = let l = c.args.buf.now in let e = (c.in-Header.ensures) in let q = lent-body l (c.from_raw-kind.ensures ∙ ap type_of (kind-is l e)) (size_is l e) (c.in-List.ensures) in gives_as (body-decides l (ok l e) (rw (← size_is l e) c.if-buf-size.false) ∙ gave (body_verdict (segment_type l) (body_at l)) (body_list (segment_type l) (body_at l)) q) (λ j. record { header = gave-value (header_verdict l) (header_fields l) e j; list = gave-value (body_verdict (segment_type l) (body_at l)) (body_list (segment_type l) (body_at l)) q j })
