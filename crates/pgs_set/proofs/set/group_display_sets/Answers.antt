@@ -55,12 +55,6 @@ returns-in-Refused c =
     (counted-short s c.loop-at.invariant c.loop-at-test.true
     (step-refused l (turned_down (segment_verdict l) (frame_of l) (frame_at s c.loop-at.at (c.in-Refused.ensures)))))
 
-pub slice_bounds-refused_before-count : goal.slice_bounds-refused_before-count
-slice_bounds-refused_before-count c = within c
-
-pub slice_bounds-refused_before-start : goal.slice_bounds-refused_before-start
-slice_bounds-refused_before-start c = omega (arith, within c)
-
 pub returns-in-Refused-group_segment : goal.returns-in-Refused-group_segment
 returns-in-Refused-group_segment c =
     let s = c.args.s.now in
