@@ -14,28 +14,25 @@ use lib.ListN.{length, drop}
 use mathlib.Core.List.{List}
 use mathlib.Core.Path.{◌≡◌, sym, ap, ◌∙◌}
 use native.Mathlib.Omega.{arith}
-use Rattle.pgs_set.proofs.set.group_display_sets.Goals.{After-opened_by-n, In-Framed-2}
+use Rattle.pgs_set.proofs.set.group_display_sets.Goals.{After-opened_by-n}
 use Rattle.pgs_set.proofs.set.group_display_sets.Goals as goal
 
 -- the segment that was read
-module _ (c : In-Framed-2) where
-  framed : gives c.in-Framed.frame ≡ outcome_of (segment_verdict (drop c.loop-at.at c.args.s.now)) (frame_of (drop c.loop-at.at c.args.s.now))
-  framed = frame_at c.args.s.now c.loop-at.at (c.in-Framed.ensures)
+module _ (s : List ℕ) (at : ℕ) (f : Frame) (framed : gives f ≡ outcome_of (segment_verdict (drop at s)) (frame_of (drop at s))) where
+  ok : step_verdict (drop at s) ≡ accepted
+  ok = step-accepted (drop at s) (gave (segment_verdict (drop at s)) (frame_of (drop at s)) framed)
 
-  ok : step_verdict (drop c.loop-at.at c.args.s.now) ≡ accepted
-  ok = step-accepted (drop c.loop-at.at c.args.s.now) (gave (segment_verdict (drop c.loop-at.at c.args.s.now)) (frame_of (drop c.loop-at.at c.args.s.now)) framed)
+  head : f.header ≡ header_fields (drop at s)
+  head = ap (λ (g : Frame). g.header) (gave-value (segment_verdict (drop at s)) (frame_of (drop at s)) framed)
 
-  head : c.in-Framed.frame.header ≡ header_fields (drop c.loop-at.at c.args.s.now)
-  head = ap (λ (f : Frame). f.header) (gave-value (segment_verdict (drop c.loop-at.at c.args.s.now)) (frame_of (drop c.loop-at.at c.args.s.now)) framed)
-
-  within : c.loop-at.at + (13 + c.in-Framed.frame.header.segment_size) ≤ length c.args.s.now
-  within = read-within c.args.s.now c.loop-at.at ok head
+  within : at + (13 + f.header.segment_size) ≤ length s
+  within = read-within s at ok head
 
 -- after a segment the counting goes on behind it
 on : (c : After-opened_by-n)
     → Counting c.args.s.now c.in-On.after (c.loop-at.at + (13 + c.in-Framed.frame.header.segment_size)) (c.loop-at.n + c.opened_by-n.result)
 on c =
-    counts-on c.args.s.now c.loop-at.invariant (ok c.before.before.before.before.before.before.before.before.before) (head c.before.before.before.before.before.before.before.before.before) c.from_raw-kind.ensures
+    counts-on c.args.s.now c.loop-at.invariant (ok c.args.s.now c.loop-at.at _ (frame_at c.args.s.now c.loop-at.at c.in-Framed.ensures)) (head c.args.s.now c.loop-at.at _ (frame_at c.args.s.now c.loop-at.at c.in-Framed.ensures)) c.from_raw-kind.ensures
     (c.in-On.ensures) c.opened_by-n.ensures
 
 pub loop-at-init : goal.loop-at-init
@@ -64,7 +61,7 @@ returns-in-Refused-group_segment c =
     ∙ ap (λ (l : List ℕ). outcome_of (and_then (stream_verdict l) (refused k)) 0) (to_end next s)
     ∙ refusal-alone (stream_verdict (drop next s)) k 0 (set_count s)
     ∙ ap (λ (v : Verdict). outcome_of v (set_count s))
-    (counted-refusal s c.loop-at.invariant (ok c) (head c) c.from_raw-kind.ensures (c.in-Refused-group_segment.ensures))
+    (counted-refusal s c.loop-at.invariant (ok c.args.s.now c.loop-at.at _ (frame_at c.args.s.now c.loop-at.at c.in-Framed.ensures)) (head c.args.s.now c.loop-at.at _ (frame_at c.args.s.now c.loop-at.at c.in-Framed.ensures)) c.from_raw-kind.ensures (c.in-Refused-group_segment.ensures))
 
 pub overflow_add-n : goal.overflow_add-n
 overflow_add-n c = omega (arith, (on (goal.at.overflow_add-n c).After-opened_by-n).few, (on (goal.at.overflow_add-n c).After-opened_by-n).inside)
@@ -77,3 +74,13 @@ loop-at-preserved c = on (goal.at.loop-at-preserved c).After-opened_by-n
 
 pub returns : goal.returns
 returns c = c.grouped.ensures ∙ counted-sets c.args.s.now c.loop-at.invariant c.loop-at-test.false
+
+pub overflow_add-next-in-Framed : goal.overflow_add-next-in-Framed
+overflow_add-next-in-Framed c = omega (arith, within c.args.s.now c.loop-at.at _ (frame_at c.args.s.now c.loop-at.at c.in-Framed.ensures))
+
+pub slice_bounds-refused_before-count : goal.slice_bounds-refused_before-count
+slice_bounds-refused_before-count c = within c.args.s.now c.loop-at.at _ (frame_at c.args.s.now c.loop-at.at c.in-Framed.ensures)
+
+pub slice_bounds-refused_before-start : goal.slice_bounds-refused_before-start
+slice_bounds-refused_before-start c = omega (arith, within c.args.s.now c.loop-at.at _ (frame_at c.args.s.now c.loop-at.at c.in-Framed.ensures))
+
