@@ -1,0 +1,30 @@
+-- `encode_pcs` tests the records, then the room, then stores head, numbers and placements.
+-- Assumes nothing.
+use Prim.Native.Nat.{ℕ, ◌+◌}
+use Rattle.pgs_writer_base.proofs.PlacementLaws.{PcsFits, rows-most, pcs-length, pcs-many, pcs-unfit, pcs-writable, pcs-body}
+use Rattle.pgs_encoding.proofs.SegmentBytes.{encode-length}
+use Rattle.pgs_writer_base.proofs.WriteLaws.{encoded, write-35, write-34, write-all}
+use Rattle.pgs_writer_base.specs.Kinds.{pcs_segment}
+use mathlib.Core.Path.{sym, ap, ◌∙◌}
+use native.Mathlib.Omega.{arith}
+use Rattle.pgs_writer_pcs.proofs.pcs.encode_pcs.Goals.{Start}
+use Rattle.pgs_writer_pcs.proofs.pcs.encode_pcs.Goals as goal
+
+-- the numbers fit their types
+numbers : (c : Start) → PcsFits c.args.pcs
+numbers c = search rules
+
+pub overflow_add-size : goal.overflow_add-size
+overflow_add-size c = omega (arith, rows-most c.args.placements.now, c.placements_size-size.ensures, c.if-n-gt255.false)
+
+pub overflow_add-total : goal.overflow_add-total
+overflow_add-total c = omega (arith, rows-most c.args.placements.now, c.placements_size-size.ensures, c.if-n-gt255.false)
+
+pub overflow_cast-size : goal.overflow_cast-size
+overflow_cast-size c = omega (arith, rows-most c.args.placements.now, c.placements_size-size.ensures, c.if-n-gt255.false)
+
+pub put_placements-requires : goal.put_placements-requires
+put_placements-requires c = record { placements_value = (sym c.placements_fit.ensures ∙ c.if-placements_fit.true); placements_in_bounds = omega (arith, c.placements_size-size.ensures, c.put_pcs.auto.out, c.put_head.auto.out, c.if-out-total.false) }
+
+pub returns-else-placements_fit : goal.returns-else-placements_fit
+returns-else-placements_fit c = write-35 (pcs_segment c.args.pts c.args.dts c.args.pcs c.args.placements.now) c.args.out.now (pcs-unfit c.args.pts c.args.dts c.args.pcs c.args.placements.now (sym c.placements_fit.ensures ∙ c.if-placements_fit.false))
