@@ -6,6 +6,7 @@ use lib.ListN.{get_or}
 use mathlib.Core.Path.{sym}
 use mir.Syntax.{w16}
 use mir.Val.{Fits}
+use borrow.Author.Rules.{rules}
 use Rattle.pgs_writer_pcs.proofs.pcs.placement_fits.Goals.{Start}
 use Rattle.pgs_writer_pcs.proofs.pcs.placement_fits.Goals as goal
 

@@ -9,8 +9,13 @@ use lib.ListN.{length}
 use mathlib.Core.List.{List}
 use mathlib.Core.Path.{sym, ◌∙◌}
 use native.Mathlib.Omega.{arith}
-use Rattle.pgs_writer_pcs.proofs.pcs.placements_fit.Goals.{UNKNOWN-Need-shared-slice-copy-out-placement-fits}
 use Rattle.pgs_writer_pcs.proofs.pcs.placements_fit.Goals as goal
+
+pub loop-i-init : goal.loop-i-init
+loop-i-init c = testing (λ (r : List ℕ). r) c.args.placements.now placement_row_fits
+
+pub bounds-placements-i : goal.bounds-placements-i
+bounds-placements-i c = c.loop-i-test.true
 
 pub loop-i-preserved : goal.loop-i-preserved
 loop-i-preserved c = passes (λ (r : List ℕ). r) c.args.placements.now placement_row_fits c.loop-i.invariant c.loop-i-test.true (sym c.placement_fits.ensures ∙ c.if-placement_fits.true)

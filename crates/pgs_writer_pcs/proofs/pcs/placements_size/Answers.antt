@@ -8,8 +8,13 @@ use Rattle.pgs_writer_base.specs.Rows.{placement_from}
 use borrow.Author.Rules.{scaled_Fits}
 use lib.ListN.{length}
 use native.Mathlib.Omega.{arith}
-use Rattle.pgs_writer_pcs.proofs.pcs.placements_size.Goals.{UNKNOWN-Need-shared-slice-copy-out-placement-size}
 use Rattle.pgs_writer_pcs.proofs.pcs.placements_size.Goals as goal
+
+pub loop-i-init : goal.loop-i-init
+loop-i-init c = measuring placement_from c.args.placements.now placement_fields 0
+
+pub bounds-placements-i : goal.bounds-placements-i
+bounds-placements-i c = c.loop-i-test.true
 
 pub overflow_add-size : goal.overflow_add-size
 overflow_add-size c = omega (arith, within placement_from c.args.placements.now placement_fields 0 c.loop-i.invariant c.loop-i-test.true, rows-most c.args.placements.now, c.placement_size-size.ensures, c.requires)
