@@ -19,7 +19,7 @@ fn put_text(text: &[u8], out: &mut [u8]) -> CardsAnswer
     if out.len() < text.len() {
         return CardsAnswer::Refused(Refusal::BufferTooSmall);
     }
-    bytes::copy(text, out);
+    out[..text.len()].copy_from_slice(text);
     CardsAnswer::Written(text.len())
 }
 

@@ -24,7 +24,7 @@ fn join_chain(s: &[u8], from: usize, id: usize, out: &mut [u8])
                 let start = f.start;
                 let stop = start + f.len;
                 let end = k + f.len;
-                bytes::copy(&s[start..stop], &mut out[k..end]);
+                out[k..end].copy_from_slice(&s[start..stop]);
                 k = end;
                 at += used;
             } else {

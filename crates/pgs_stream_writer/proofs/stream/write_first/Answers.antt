@@ -52,8 +52,3 @@ loop-i-preserved c =
     let u = c.used_by-used.ensures ∙ ap used_by (to_end c.loop-i.from s) in
     rw (e, u, c.bytes_written-at.ensures, c.writes_accepted-accepted.ensures)
     (performs-on c.args.s.now c.args.n c.args.out.now c.loop-i.invariant c.loop-i-test.true c.rewrite_segment-answer.result (lent-write c.args.s.now c.loop-i.out c.loop-i.from c.loop-i.at c.rewrite_segment-answer.ensures))
-
-pub returns : goal.returns
-returns c =
-    let r = performed c.args.s.now c.args.n c.args.out.now c.loop-i.invariant c.loop-i-test.false in
-    record { result_value = ap (λ (x : ℕ × ℕ). gives x) (sym r.0); out_after = r.1 }
