@@ -130,9 +130,7 @@ module _ (s : List ℕ) (from id : ℕ) where
 
               -- its data is copied
               pub joins-on : {ys : List ℕ}
-                  → ys
-                  ≡ take (length (take (f.start + f.len - f.start) (drop f.start s))) (take (f.start + f.len - f.start) (drop f.start s))
-                  ++ drop (length (take (f.start + f.len - f.start) (drop f.start s))) (take (k + f.len - k) (drop k now))
+                  → ys ≡ take (f.start + f.len - f.start) (drop f.start s)
                   → Joining s from id start (take k now ++ (ys ++ drop (k + f.len - k) (drop k now))) (at + (13 + h.segment_size)) (k + f.len)
               joins-on {ys} ey =
                   rw (size-read (drop at s) e, copied)
@@ -145,18 +143,8 @@ module _ (s : List ℕ) (from id : ℕ) where
                   n : k + f.len - k ≡ f.len
                   n = omega arith
 
-                  none : drop (length (take (f.start + f.len - f.start) (drop f.start s))) (take (k + f.len - k) (drop k now)) ≡ []
-                  none =
-                      drop_of_length-le (take (k + f.len - k) (drop k now))
-                      {i = length (take (f.start + f.len - f.start) (drop f.start s))}
-                      (omega (arith, length-take (k + f.len - k) (drop k now), ap length its-bytes, its-length))
-
                   copied : ys ≡ (fragment_at at (drop at s)).bytes
-                  copied =
-                      ey
-                      ∙ (λ j. take-length (take (f.start + f.len - f.start) (drop f.start s)) j ++ none j)
-                      ∙ append-nil (take (f.start + f.len - f.start) (drop f.start s))
-                      ∙ its-bytes
+                  copied = ey ∙ its-bytes
 
 -- the rows before i are joined, in `at` bytes
 pub record Placing (s : List ℕ) (rows : List (List ℕ)) (start now : List ℕ) (i at : ℕ) : Type 0 where

@@ -40,3 +40,15 @@ loop-k-preserved c = joins-past c.args.s.now c.args.from c.args.id c.loop-k.inva
 
 pub returns : goal.returns
 returns c = joined-all c.args.s.now c.args.from c.args.id c.loop-k.invariant c.loop-k-test.false
+
+pub read_fragment-f-requires-clause-s_value : goal.read_fragment-f-requires-clause-s_value
+read_fragment-f-requires-clause-s_value c = joins-here c.args.s.now c.args.from c.args.id c.loop-k.invariant c.loop-k-test.true
+
+pub slice_bounds-copy_from_slice-end : goal.slice_bounds-copy_from_slice-end
+slice_bounds-copy_from_slice-end c = omega (arith, joins-to c.args.s.now c.args.from c.args.id c.loop-k.invariant c.loop-k-test.true c.header_at-header.ensures c.from_raw.ensures c.is_ods.ensures c.if-is_ods.true c.read_fragment-f.ensures c.if-f-id.true)
+
+pub slice_bounds-copy_from_slice-end-then-f-id : goal.slice_bounds-copy_from_slice-end-then-f-id
+slice_bounds-copy_from_slice-end-then-f-id c = omega (arith, joins-from c.args.s.now c.args.from c.args.id c.loop-k.invariant c.loop-k-test.true c.header_at-header.ensures c.from_raw.ensures c.is_ods.ensures c.if-is_ods.true c.read_fragment-f.ensures c.if-f-id.true)
+
+pub loop-k-preserved-then-f-id : goal.loop-k-preserved-then-f-id
+loop-k-preserved-then-f-id c = joins-on c.args.s.now c.args.from c.args.id c.loop-k.invariant c.loop-k-test.true c.header_at-header.ensures c.from_raw.ensures c.is_ods.ensures c.if-is_ods.true c.read_fragment-f.ensures c.if-f-id.true c.copy_from_slice.ensures.after
