@@ -1,0 +1,16 @@
+use Rattle.pgs_cards.proofs.ReportLaws.{tested-sets, tested-count, says-too-long, says-refusal, says-cards, text-is}
+use Rattle.pgs_set.specs.Sets.{sets_outcome}
+use mathlib.Core.Path.{sym, ap, ◌∙◌}
+use Rattle.pgs_cards.proofs.report.write_report.Goals as goal
+
+pub returns-then-s-gt-INPUT_LIMIT : goal.returns-then-s-gt-INPUT_LIMIT
+returns-then-s-gt-INPUT_LIMIT c = text-is (says-too-long c.args.s.now c.if-s-gt-INPUT_LIMIT.true) c.put_text.ensures
+
+pub put_lines-requires : goal.put_lines-requires
+put_lines-requires c = record { s_value = tested-sets c.args.s.now (c.in-Sets.ensures); n_value = tested-count c.args.s.now (c.in-Sets.ensures) }
+
+pub returns-in-Refused : goal.returns-in-Refused
+returns-in-Refused c = text-is (says-refusal c.args.s.now c.if-s-gt-INPUT_LIMIT.false (c.in-Refused.ensures) c.number.ensures) c.put_refusal.ensures
+
+pub returns-in-Sets : goal.returns-in-Sets
+returns-in-Sets c = text-is (says-cards c.args.s.now c.if-s-gt-INPUT_LIMIT.false (c.in-Sets.ensures)) c.put_lines.ensures

@@ -1,0 +1,17 @@
+use mathlib.Core.Path.{refl}
+use native.Mathlib.Omega.{arith}
+use lib.ListN.{replicate}
+use Rattle.pgs_rendering.proofs.RenderLaws.{listed-narrow, ready-storable, ready-room, ready-stored, ready-painted}
+use Rattle.pgs_render.proofs.render.show.Goals as goal
+
+pub store_bitmaps-requires : goal.store_bitmaps-requires
+store_bitmaps-requires c = ready-storable c.args.set c.args.s.now c.requires.listed c.requires.ready (λ i. (c.shared_slice_known-1.given i).fits)
+
+pub returns : goal.returns
+returns c =
+    record {
+      stored = ready-stored c.args.set c.args.s.now c.requires.listed c.requires.ready c.store_bitmaps.ensures;
+      shown =
+          ready-painted c.args.set c.args.s.now c.requires.listed c.requires.ready c.store_bitmaps.ensures c.requires.opened c.requires.placed (λ i. (c.shared_slice_known-1.given i).fits)
+          (replicate 1024 0) refl c.fill_table.ensures c.clear_plane.ensures c.paint_placements.ensures;
+    }
