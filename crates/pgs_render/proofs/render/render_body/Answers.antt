@@ -26,3 +26,7 @@ returns-in-Placements c =
     let b = c.args.body.now in
     let d = rw (ap pcs_outcome c.in-Placements.is) at c.parse.ensures in
     answers c.render_set-shown.ensures (parsed-answer b d c.args.set c.args.s.now c.requires.composed (outcome c.render_set-shown.result) c.answer_of.ensures)
+
+pub render_set-shown-requires-clause-placed : goal.render_set-shown-requires-clause-placed
+render_set-shown-requires-clause-placed c =
+    parsed-placed c.args.body.now c.in-Placements.ensures c.args.set c.args.s.now c.requires.composed

@@ -15,3 +15,9 @@ returns c =
           ready-painted c.args.set c.args.s.now c.requires.listed c.requires.ready c.store_bitmaps.ensures c.requires.opened c.requires.placed (λ i. (c.shared_slice_known-1.given i).fits)
           (replicate 1024 0) refl c.fill_table.ensures c.clear_plane.ensures c.paint_placements.ensures;
     }
+
+pub paint_placements-requires-clause-narrow : goal.paint_placements-requires-clause-narrow
+paint_placements-requires-clause-narrow c = listed-narrow c.args.set c.args.s.now c.requires.listed (λ i. (c.shared_slice_known-1.given i).fits)
+
+pub paint_placements-requires-clause-rows_in_bounds : goal.paint_placements-requires-clause-rows_in_bounds
+paint_placements-requires-clause-rows_in_bounds c = omega (arith, ready-room c.args.set c.args.s.now c.requires.listed c.requires.ready, c.store_bitmaps.auto.scratch)
