@@ -5,29 +5,28 @@
 FILE = samples/one-set.sup
 cards:
 	@mkdir -p target
-	@rt check setcards >target/setcards.log 2>&1 || { cat target/setcards.log; exit 1; }
-	@target/bin/setcards <"$(FILE)"
+	@(cd crates/setcards && rt run) </dev/null >target/setcards.log 2>&1 || { cat target/setcards.log; exit 1; }
+	@crates/setcards/out/setcards <"$(FILE)"
 
-# The gate: everything proved from nothing, must-fail edits, programs, setcards on more inputs, the bindings, the
-# comparison with the published Rust.
+# The gate: everything proved, must-fail edits, programs, setcards on more inputs, the bindings, the comparison with the
+# published Rust.
 test:
 	.ci/run
 
 # The proofs of what changed.
 check:
-	rt check
+	rt all check
 
 # The static library and its header, in dist/, for programs in C and Rust.
-LIBRARY = target/staticlib/libpgs_c.a
+LIBRARY = crates/pgs_c/out/libpgs_c.a
 lib: $(LIBRARY)
 	@mkdir -p dist
 	@cp $(LIBRARY) include/pgs.h dist/
 
 # It is proved and built again where something of the crates that are no programs is newer.
 CRATES = $(patsubst %/src/lib.rt,%,$(wildcard crates/*/src/lib.rt))
-$(LIBRARY): crates.txt $(shell find $(CRATES) -path '*/src/*.rt' -o -path '*/specs/*.antt' -o -path '*/proofs/*.antt')
-	rt staticlib pgs_c
-	@touch $@
+$(LIBRARY): crates.txt $(shell find $(CRATES) -name out -prune -o -name '*.rt' -print -o -name '*.antt' -print)
+	cd crates/pgs_c && rt lib
 
 # The comparison alone; words for it in ARGS, as ARGS="compare --scale 4" or ARGS="stream 50 47 00 .."
 diff differential:
@@ -47,6 +46,6 @@ bench:
 
 # The layout of the sources.
 fmt:
-	rt fmt
+	@for crate in $(wildcard crates/*); do (cd $$crate && rt fmt) || exit 1; done
 	cargo fmt --all --manifest-path tests/differential/Cargo.toml
 	cargo fmt --manifest-path bindings/rust/Cargo.toml

@@ -1,4 +1,4 @@
-//! Links the static library: target/staticlib/libpgs_c.a, or the one in the folder PGS_C_LIB.
+//! Links libpgs_c.a: the one in dist/, which `make lib` writes, or in the folder PGS_C_LIB.
 
 use std::env;
 use std::path::PathBuf;
@@ -8,7 +8,7 @@ fn main() {
     let here = PathBuf::from(env::var("CARGO_MANIFEST_DIR").unwrap());
     let folder = match env::var("PGS_C_LIB") {
         Ok(folder) => PathBuf::from(folder),
-        Err(_) => here.join("../../target/staticlib"),
+        Err(_) => here.join("../../dist"),
     };
     println!("cargo:rerun-if-changed={}", folder.join("libpgs_c.a").display());
     println!("cargo:rustc-link-search=native={}", folder.display());

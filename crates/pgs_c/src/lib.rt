@@ -2,6 +2,7 @@
 // Every function that can refuse answers 0 when the call is accepted, else the refusal's number, and then leaves every other parameter
 // as it was; painting alone has its own rule.
 #![tactic(auto)]
+
 pub mod bitmap;
 pub mod cards;
 pub mod color;
