@@ -20,7 +20,7 @@ use pgs_segment::header::{HeaderAnswer, SegmentHeader};
 use pgs_stream::stream::{StreamAnswer, count_segments};
 
 // A segment's record: its place in the stream, and its head.
-#[derive(Drop)]
+#[derive(Clone, Copy)]
 pub struct SegmentRecord {
     pub place: usize,
     pub pts: u32,
@@ -30,14 +30,14 @@ pub struct SegmentRecord {
 }
 
 // The record of a segment, and the place after it.
-#[derive(Drop)]
+#[derive(Clone, Copy)]
 struct Placed {
     pub segment: SegmentRecord,
     pub next: usize,
 }
 
 // What a call answers, and how many records it stores: none where it is refused.
-#[derive(Drop)]
+#[derive(Clone, Copy)]
 struct Plan {
     pub answer: StreamAnswer,
     pub stored: usize,
@@ -122,7 +122,7 @@ pub fn parse_segments(s: &[u8], list: &mut [SegmentRecord]) -> StreamAnswer
 }
 
 // A list of eight records by value, and what a call that was lent it answered.
-#[derive(Drop)]
+#[derive(Clone, Copy)]
 pub struct Eight {
     pub answer: StreamAnswer,
     pub list: [SegmentRecord; 8],
