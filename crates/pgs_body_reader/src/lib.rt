@@ -1,7 +1,8 @@
-// The body reader of 01 in the form that it names: a struct that holds the body and its position. The borrow checker covers no
-// function over such a struct, so each method is proved by a walk of its MIR. A method has no branch: it takes the struct
-// apart and calls a covered function on the body and the position.
+// The body reader of 01 in the form that it names: a struct that holds the body and its position. Its methods are proved as every
+// function is, and so is a function that makes a reader, keeps it in a local or lends it. A method has no branch: what is left and
+// what a read gives is found by functions on the body and the position.
 #![tactic(auto)]
+
 ghost use Rattle.std.specs.Prelude.{◌≡◌, ◌-◌, ◌<◌, length, drop};
 ghost use Rattle.pgs_cursor.specs.Cursor.{outcome, taken_at};
 ghost use Rattle.pgs_body_reader.specs.Reader.{Taking, at_start, left_of, Reads, Rests};
@@ -9,21 +10,21 @@ ghost use Rattle.pgs_body_reader.specs.Reader.{Taking, at_start, left_of, Reads,
 use pgs_base::refusal::Refusal;
 use pgs_cursor::cursor::{BodyCursor, Taken};
 
-#[derive(Drop)]
+#[derive(Clone, Copy)]
 pub struct BodyReader<'a> {
     buf: &'a [u8],
     pos: usize,
 }
 
 // A number that was read, or why there is none.
-#[derive(Drop)]
+#[derive(Clone, Copy)]
 pub enum Field {
     Number(u32),
     Refused(Refusal),
 }
 
 // What a read answers, and the position after it.
-#[derive(Drop)]
+#[derive(Clone, Copy)]
 struct Step {
     pub field: Field,
     pub next: usize,

@@ -1,12 +1,13 @@
 // The head and the data of a fragment, read through a body reader.
 #![tactic(auto)]
+
 ghost use Rattle.std.specs.Prelude.{◌≡◌, drop};
 ghost use Rattle.pgs_fragment_reader.specs.Fragment.{place_from, head_widths, Headed};
 
 use pgs_body_reader::{BodyReader, Field};
 
 // The fields at the front of an ODS body up to the declared length, each as its read answered it, and how many bytes are left.
-#[derive(Drop)]
+#[derive(Clone, Copy)]
 pub struct FragmentHead {
     pub object_id: Field,
     pub object_version: Field,
@@ -16,7 +17,7 @@ pub struct FragmentHead {
 }
 
 // The head of a fragment, read through a reader. A read that is refused is passed over, and the next goes on at the same place. The
-// parameter is a plain slice, so whoever calls it needs no walk.
+// parameter is a plain slice, so whoever calls it needs no reader.
 pub fn fragment_head(body: &[u8]) -> FragmentHead
     ensures { Headed body.now result }
 {

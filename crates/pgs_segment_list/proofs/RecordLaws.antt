@@ -1,41 +1,19 @@
 -- Storing records: the loop of `fill` keeps `Keeping`, by way of the rows of cells that the records stand for. Assumes nothing.
-use mathlib.Core.Path.{◌≡◌, refl, sym, ap, ◌∙◌}
-use mathlib.Core.List.{List, [], ◌∷◌, ◌++◌, map}
-use Prim.Native.Nat.{ℕ, zero, suc, ◌+◌, ◌-◌, ◌≤◌, ◌<◌, ◌^◌}
-use native.Mathlib.Omega.{arith}
-use borrow.Author.Tests.{leb-true, le-leb, lt-leb}
-use lib.Dec.{leb}
-use lib.ListN.{length, drop, set, length-map}
-use Rattle.pgs_base.specs.Outcome.{Verdict, accepted, refused, gives, refuses, outcome_of, laid, delivery, Delivered}
-use Rattle.pgs_base.proofs.Outcomes.{gave, gave-value, turned_down, first-accepts, second_holds, holds}
-use Rattle.pgs_base.specs.Refusals.{number_of}
-use Rattle.pgs_base.specs.declared.refusal.Refusal.{Refusal}
-use Rattle.pgs_base.specs.declared.refusal.Refusal.TheVariants.{BufferTooSmall}
-use Rattle.pgs_segment.specs.Header.{header_verdict, header_fields, header_of}
-use Rattle.pgs_segment.specs.declared.header.SegmentHeader.{SegmentHeader}
-use Rattle.pgs_stream.specs.declared.stream.StreamAnswer.TheVariants.{Segments, Refused}
+use Rattle.std.proofs.Common.{◌≡◌, refl, sym, ap, ◌∙◌, List, [], ◌∷◌, ◌++◌, map, ℕ, ◌+◌, ◌≤◌, ◌<◌, length, drop, set, arith}
+use Rattle.std.proofs.lemmas.List.{length-map, map-set, map-append, drop-map}
+use Rattle.std.proofs.lemmas.Bool.{leb-true, le-leb}
+use Rattle.std.proofs.Math.Dec.{leb}
+use Rattle.pgs_base.specs.Outcome.{Verdict, accepted, refused, gives, outcome_of, laid, delivery, Delivered}
+use Rattle.pgs_base.proofs.Outcomes.{gave, gave-value, first-accepts, second_holds, holds}
+use Rattle.pgs_segment.specs.Header.{header_verdict}
+use Rattle.pgs_stream.specs.declared.stream.StreamAnswer.TheVariants.{Segments}
 use Rattle.pgs_segment.specs.OneSegment.{used_by, segment_verdict}
 use Rattle.pgs_stream.specs.Stream.{segment_count, segment_row, segment_rows, stream_verdict, stream_outcome}
 use Rattle.pgs_segment.proofs.SegmentLaws.{accepted-head}
 use Rattle.pgs_stream.proofs.StreamLaws.{Storing, storing, next-accepted, next-within, stores-on, stored-segments, segment-rows}
-use Rattle.pgs_segment_list.specs.Segments.{record_of, segment_records, plan_verdict, stored_by, Planned, Recorded}
+use Rattle.pgs_segment_list.specs.Segments.{record_of, segment_records, plan_verdict, stored_by, Planned}
 use Rattle.pgs_segment_list.specs.declared.Plan.{Plan}
 use Rattle.pgs_segment_list.specs.declared.SegmentRecord.{SegmentRecord}
-
--- ---- lists
-map-set : {A B : Type 0} (f : A → B) (l : List A) (i : ℕ) (a : A) → map f (set l i a) ≡ set (map f l) i (f a)
-map-set f [] i a = refl
-map-set f (x ∷ l) zero a = refl
-map-set f (x ∷ l) (suc i) a = ap (◌∷◌ (f x)) (map-set f l i a)
-
-map-join : {A B : Type 0} (f : A → B) (l k : List A) → map f (l ++ k) ≡ map f l ++ map f k
-map-join f [] k = refl
-map-join f (x ∷ l) k = ap (◌∷◌ (f x)) (map-join f l k)
-
-map-drop : {A B : Type 0} (f : A → B) (n : ℕ) (l : List A) → map f (drop n l) ≡ drop n (map f l)
-map-drop f zero l = refl
-map-drop f (suc n) [] = refl
-map-drop f (suc n) (x ∷ l) = map-drop f n l
 
 -- ---- records and the rows of their cells
 abbrev cells_of : SegmentRecord → List ℕ
@@ -54,33 +32,19 @@ unfolding rows_of
 rows-length l = length-map l cells_of
 
 -- as many records as segments, so the delivery's verdict is the plan's
-pub record-count : (s : List ℕ) → length (segment_records s) ≡ segment_count s
+record-count : (s : List ℕ) → length (segment_records s) ≡ segment_count s
 unfolding segment_records
 record-count s = length-map (segment_rows s) record_of ∙ segment-rows s
 
-pub plan-is : (s : List ℕ) (before : List SegmentRecord) → plan_verdict s (length before) ≡ delivery (stream_verdict s) (segment_records s) before
+plan-is : (s : List ℕ) (before : List SegmentRecord) → plan_verdict s (length before) ≡ delivery (stream_verdict s) (segment_records s) before
 plan-is s before = rw (record-count s)
 
--- ---- the plan
-module _ (s : List ℕ) (room : ℕ) where
-  refused-plan : {p : Plan} {k : ℕ} → plan_verdict s room ≡ refused k → stream_outcome p.answer ≡ refuses k → p.stored ≡ 0 → Planned s room p
-  refused-plan v a e = record { answered = rw v a; stored = rw v e }
-
-  -- the stream is refused
-  pub refusal-planned : (why : Refusal) → refuses (number_of why) ≡ outcome_of (stream_verdict s) (segment_count s) → Planned s room (record { answer = Refused why; stored = 0 })
-  refusal-planned why e = refused-plan (rw (turned_down (stream_verdict s) (segment_count s) e)) refl refl
-
-  -- there is no room
-  pub short-planned : {n : ℕ} → gives n ≡ outcome_of (stream_verdict s) (segment_count s) → room < n → Planned s room (record { answer = Refused BufferTooSmall; stored = 0 })
-  short-planned e h =
-      refused-plan (simp (gave (stream_verdict s) (segment_count s) e, lt-leb (segment_count s) room (omega (arith, gave-value (stream_verdict s) (segment_count s) e)))) refl refl
-
-  -- all is stored
-  pub all-planned : {n : ℕ} → gives n ≡ outcome_of (stream_verdict s) (segment_count s) → n ≤ room → Planned s room (record { answer = Segments n; stored = n })
-  all-planned {n} e h =
-      let c : n ≡ segment_count s = gave-value (stream_verdict s) (segment_count s) e in
-      let v : plan_verdict s room ≡ accepted = simp (gave (stream_verdict s) (segment_count s) e, le-leb (segment_count s) room (omega arith)) in
-      record { answered = rw v (ap gives c); stored = rw v c }
+-- ---- the plan: where there is room, all is stored
+pub all-planned : (s : List ℕ) (room : ℕ) {n : ℕ} → gives n ≡ outcome_of (stream_verdict s) (segment_count s) → n ≤ room → Planned s room (record { answer = Segments n; stored = n })
+all-planned s room {n} e h =
+    let c : n ≡ segment_count s = gave-value (stream_verdict s) (segment_count s) e in
+    let v : plan_verdict s room ≡ accepted = simp (gave (stream_verdict s) (segment_count s) e, le-leb (segment_count s) room (omega arith)) in
+    record { answered = rw v (ap gives c); stored = rw v c }
 
 -- the plan's answer, and the list that was filled by it, are what is to be delivered
 pub delivers : (s : List ℕ) (before after : List SegmentRecord) (p : Plan) → Planned s (length before) p → after ≡ laid (plan_verdict s (length before)) (segment_records s) before
@@ -89,19 +53,6 @@ delivers s before after p e w = record {
   answered = e.answered ∙ ap (λ (v : Verdict). outcome_of v (segment_count s)) (plan-is s before);
   written = w ∙ ap (λ (v : Verdict). laid v (segment_records s) before) (plan-is s before);
 }
-
--- ---- one record
-pub recorded : (at : ℕ) (l : List ℕ) {h : SegmentHeader} → header_verdict l ≡ accepted → gives h ≡ header_of l
-    → Recorded at l (record { segment = record { place = at; pts = h.pts; dts = h.dts; segment_type = h.segment_type; segment_size = h.segment_size }; next = at + (13 + h.segment_size) })
-recorded at l {h} v e =
-    let q : h ≡ header_fields l = gave-value (header_verdict l) (header_fields l) e in
-    record {
-      same = λ j. record { place = at; pts = (q j).pts; dts = (q j).dts; segment_type = (q j).segment_type; segment_size = (q j).segment_size };
-      next = λ j. at + (13 + (q j).segment_size);
-    }
-
-pub never-refused : (l : List ℕ) {k : ℕ} {A : Type 0} → header_verdict l ≡ accepted → refuses k ≡ header_of l → A
-never-refused l v e = let r = turned_down (header_verdict l) (header_fields l) e in let z : ◌≡◌ {A = ℕ} 0 1 = cc in absurd (omega arith)
 
 -- ---- the loop
 -- i of n records are stored in `now`, and the next segment stands at place `at` of the stream s; or nothing is to be stored
@@ -130,14 +81,6 @@ module _ (s : List ℕ) (n : ℕ) {start now : List SegmentRecord} {i at : ℕ} 
   headed (idle k v e q) h = absurd (omega arith)
   headed (busy rows v room c q) h = accepted-head (drop at s) (first-accepts (segment_verdict (drop at s)) _ (next-accepted s n c h))
 
-  pub same_length : Keeping s n start now i at → length now ≡ length start
-  same_length (idle k v e q) = ap length q
-  same_length (busy rows v room c q) = ap length q ∙ (length-map rows record_of ∙ (c.front.same ∙ rows-length start))
-
-  pub in_list : Keeping s n start now i at → i < n → i < length now
-  in_list (idle k v e q) h = absurd (omega arith)
-  in_list (busy rows v room c q) h = omega (arith, same_length (busy rows v room c q))
-
   pub stores : Keeping s n start now i at → i < n → (r : SegmentRecord) (next : ℕ) → r ≡ record_of (segment_row at (drop at s)) → next ≡ at + used_by (drop at s)
       → Keeping s n start (set now i r) (i + 1) next
   stores (idle k v e q) h r next p x = absurd (omega arith)
@@ -150,15 +93,6 @@ module _ (s : List ℕ) (n : ℕ) {start now : List SegmentRecord} {i at : ℕ} 
   unfolding segment_records
   ends (idle k v e q) h = rw v q
   ends (busy rows v room c q) h =
-      rw v (q ∙ (ap (map record_of) (stored-segments s n c h) ∙ (map-join record_of (segment_rows s) (drop (length (segment_rows s)) (rows_of start))
+      rw v (q ∙ (ap (map record_of) (stored-segments s n c h) ∙ (map-append record_of (segment_rows s) (drop (length (segment_rows s)) (rows_of start))
       ∙ ap (λ (l : List SegmentRecord). map record_of (segment_rows s) ++ l)
-      (map-drop record_of (length (segment_rows s)) (rows_of start) ∙ (λ j. drop (sym (length-map (segment_rows s) record_of) j) (back start j))))))
-
--- a turn of the loop
-pub record Turn (s : List ℕ) (n : ℕ) (start : List SegmentRecord) : Type 0 where
-  pub i : ℕ
-  pub at : ℕ
-  pub now : List SegmentRecord
-  pub few : i ≤ n
-  pub fits : at < 2 ^ 64
-  pub keeps : Keeping s n start now i at
+      (sym (drop-map record_of (length (segment_rows s)) (rows_of start)) ∙ (λ j. drop (sym (length-map (segment_rows s) record_of) j) (back start j))))))

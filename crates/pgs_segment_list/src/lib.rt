@@ -1,7 +1,7 @@
-// The records of a stream's segments as a lent mutable slice of structs, the form that 01 names. The borrow checker covers slices of
-// numbers and of arrays of numbers, and not slices of structs: `fill` and `parse_segments` are proved by a walk of their MIR.
-// All that decides is in covered functions: `plan_for` finds the answer, `record_at` reads one record.
+// The records of a stream's segments as a lent mutable slice of structs, the form that 01 names. Whoever lends or fills such a slice
+// is proved as every function is. `plan_for` finds the answer, `record_at` reads one record, and `fill` stores as many as the plan says.
 #![tactic(auto)]
+
 ghost use Rattle.std.specs.Prelude.{◌≡◌, ◌+◌, ◌≤◌, length, drop};
 ghost use Rattle.pgs_base.specs.Outcome.{accepted, laid, Delivered};
 ghost use Rattle.pgs_segment.specs.Header.{header_verdict};
@@ -20,7 +20,7 @@ use pgs_segment::header::{HeaderAnswer, SegmentHeader};
 use pgs_stream::stream::{StreamAnswer, count_segments};
 
 // A segment's record: its place in the stream, and its head.
-#[derive(Drop)]
+#[derive(Clone, Copy)]
 pub struct SegmentRecord {
     pub place: usize,
     pub pts: u32,
@@ -30,14 +30,14 @@ pub struct SegmentRecord {
 }
 
 // The record of a segment, and the place after it.
-#[derive(Drop)]
+#[derive(Clone, Copy)]
 struct Placed {
     pub segment: SegmentRecord,
     pub next: usize,
 }
 
 // What a call answers, and how many records it stores: none where it is refused.
-#[derive(Drop)]
+#[derive(Clone, Copy)]
 struct Plan {
     pub answer: StreamAnswer,
     pub stored: usize,
@@ -122,13 +122,13 @@ pub fn parse_segments(s: &[u8], list: &mut [SegmentRecord]) -> StreamAnswer
 }
 
 // A list of eight records by value, and what a call that was lent it answered.
-#[derive(Drop)]
+#[derive(Clone, Copy)]
 pub struct Eight {
     pub answer: StreamAnswer,
     pub list: [SegmentRecord; 8],
 }
 
-// The same of a list that is passed by value and handed back: whoever calls it needs no walk.
+// The same of a list that is passed by value and handed back.
 pub fn parse_eight(s: &[u8], list: [SegmentRecord; 8]) -> Eight
     ensures { Delivered (stream_verdict s.now) (segment_count s.now) (segment_records s.now) list result.list (stream_outcome result.answer) }
 {
