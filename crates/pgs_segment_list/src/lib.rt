@@ -20,7 +20,7 @@ use pgs_segment::header::{HeaderAnswer, SegmentHeader};
 use pgs_stream::stream::{StreamAnswer, count_segments};
 
 // A segment's record: its place in the stream, and its head.
-#[derive(Drop)]
+#[derive(Clone, Copy)]
 pub struct SegmentRecord {
     pub place: usize,
     pub pts: u32,
