@@ -3,127 +3,149 @@
 //
 // An input has a head of 7 bytes: which call, the input's length in 2 bytes, two numbers in 2 bytes each; then its bytes.
 #![tactic(auto)]
+
 mod print;
 mod read;
 mod write;
 
-use libc::STDIN_FILENO;
 use pgs_base::number::u16_of;
+use std::io;
+use std::io::{ErrorKind, Read};
 
 // The calls that read; a and b are the numbers of an input.
-fn replay_reading(call: u8, a: u16, b: u16, input: &[u8]) {
+fn replay_reading(rt: &impl Print, call: u8, a: u16, b: u16, input: &[u8]) -> io::Result<()> {
     if call == b'S' {
-        read::segments(input);
+        read::segments(rt, input)?;
     }
     if call == b'P' {
-        read::pcs(input);
+        read::pcs(rt, input)?;
     }
     if call == b'W' {
-        read::wds(input);
+        read::wds(rt, input)?;
     }
     if call == b'C' {
-        read::pds(input);
+        read::pds(rt, input)?;
     }
     if call == b'O' {
-        read::ods(input);
+        read::ods(rt, input)?;
     }
     if call == b'G' {
-        read::sets(input);
+        read::sets(rt, input)?;
     }
     if call == b'J' {
-        read::objects(input, a);
+        read::objects(rt, input, a)?;
     }
     if call == b'L' {
-        read::cards(input);
+        read::cards(rt, input)?;
     }
     if call == b'B' {
-        read::bitmap(input, a, b);
+        read::bitmap(rt, input, a, b)?;
     }
     if call == b'I' {
-        read::plane(input, a);
+        read::plane(rt, input, a)?;
     }
     if call == b'Y' {
-        read::color(input);
+        read::color(rt, input)?;
     }
+    Ok(())
 }
 
 // The calls that write.
-fn replay_writing(call: u8, a: u16, input: &[u8]) {
+fn replay_writing(rt: &impl Print, call: u8, a: u16, input: &[u8]) -> io::Result<()> {
     if call == b'R' {
-        write::segments(input, a);
+        write::segments(rt, input, a)?;
     }
     if call == b'U' {
-        write::other(input);
+        write::other(rt, input)?;
     }
     if call == b'F' {
-        write::ods(input);
+        write::ods(rt, input)?;
     }
     if call == b'E' {
-        write::end(input);
+        write::end(rt, input)?;
     }
     if call == b'p' {
-        write::pcs(input, a);
+        write::pcs(rt, input, a)?;
     }
     if call == b'w' {
-        write::wds(input, a);
+        write::wds(rt, input, a)?;
     }
     if call == b'c' {
-        write::pds(input, a);
+        write::pds(rt, input, a)?;
     }
+    Ok(())
 }
 
-fn replay(call: u8, a: u16, b: u16, input: &[u8]) {
-    replay_reading(call, a, b, input);
-    replay_writing(call, a, input);
+fn replay(rt: &impl Print, call: u8, a: u16, b: u16, input: &[u8]) -> io::Result<()> {
+    replay_reading(rt, call, a, b, input)?;
+    replay_writing(rt, call, a, input)
 }
 
 // Replays the first `len` bytes of a buffer.
-fn replay_front(call: u8, a: u16, b: u16, buffer: &[u8], len: usize) {
+fn replay_front(
+    rt: &impl Print,
+    call: u8,
+    a: u16,
+    b: u16,
+    buffer: &[u8],
+    len: usize,
+) -> io::Result<()> {
     if buffer.len() < len {
-        return;
+        return Ok(());
     }
-    replay(call, a, b, &buffer[..len]);
+    replay(rt, call, a, b, &buffer[..len])
+}
+
+// Fills a buffer; false where the input ends before.
+fn read_full(reader: &mut impl Read, buffer: &mut [u8]) -> io::Result<bool> {
+    match reader.read_exact(buffer) {
+        Ok(()) => Ok(true),
+        Err(e) if e.kind() == ErrorKind::UnexpectedEof => Ok(false),
+        Err(e) => Err(e),
+    }
 }
 
 // Reads `len` bytes to the front of a buffer; false where they do not fit or are not there.
-fn read_front(buffer: &mut [u8], len: usize) -> bool {
+fn read_front(reader: &mut impl Read, buffer: &mut [u8], len: usize) -> io::Result<bool> {
     if buffer.len() < len {
-        return false;
+        return Ok(false);
     }
-    io::read_full(STDIN_FILENO, &mut buffer[..len]) == len
+    read_full(reader, &mut buffer[..len])
 }
 
 // Reads one input and replays it; false at the end.
-fn replay_next() -> bool {
+fn replay_next(rt: &impl Print, reader: &mut impl Read) -> io::Result<bool> {
     let mut head = [0u8; 7];
-    let got = io::read_full(STDIN_FILENO, &mut head);
-    if got < 7 {
-        return false;
+    if !read_full(reader, &mut head)? {
+        return Ok(false);
     }
     let len = u16_of(head[1], head[2]) as usize;
-    let mut buffer = io::buffer();
-    if !read_front(&mut buffer, len) {
-        return false;
+    let mut buffer = [0u8; 4096];
+    if !read_front(reader, &mut buffer, len)? {
+        return Ok(false);
     }
     replay_front(
+        rt,
         head[0],
         u16_of(head[3], head[4]),
         u16_of(head[5], head[6]),
         &buffer,
         len,
-    );
-    true
+    )?;
+    Ok(true)
 }
 
-// All inputs. A proved loop has to end, so it counts down, from more than there are.
-fn replay_all() -> u64 {
-    let mut left: u64 = 100000;
-    while left > 0 && replay_next() {
-        left -= 1;
+// All inputs. A proved loop has to end, so it takes at most a number that is more than there are.
+fn replay_all(rt: &impl Print, reader: &mut impl Read) -> io::Result<u64> {
+    for count in 0..100000u64 {
+        if !replay_next(rt, reader)? {
+            return Ok(count);
+        }
     }
-    100000 - left
+    Ok(100000)
 }
 
-fn main() {
-    print::total(replay_all());
+fn main(rt: HostRuntime) -> io::Result<()> {
+    let mut reader = rt.reader();
+    print::total(&rt, replay_all(&rt, &mut reader)?)
 }

@@ -12,51 +12,46 @@ use pgs_writer_base::head::WriteAnswer;
 use pgs_writer_lists::pds::encode_pds;
 use pgs_writer_lists::wds::encode_wds;
 use pgs_writer_pcs::pcs::encode_pcs;
+use std::io;
 
-fn print_writes(answer: WritesAnswer) {
-    print::text(b"writes");
+fn print_writes(rt: &impl Print, answer: WritesAnswer) -> io::Result<()> {
+    print::text(rt, b"writes")?;
     match answer {
-        WritesAnswer::Refused(why) => {
-            print::refused(why);
-        }
+        WritesAnswer::Refused(why) => print::refused(rt, why),
         WritesAnswer::Writes(accepted, n) => {
-            print::accepted(accepted);
-            print::number(n as u64);
+            print::accepted(rt, accepted)?;
+            print::number(rt, n as u64)
         }
     }
 }
 
 // The first a segments of a stream, written again.
-pub(crate) fn segments(input: &[u8], a: u16) {
+pub(crate) fn segments(rt: &impl Print, input: &[u8], a: u16) -> io::Result<()> {
     let mut out = [9u8; 64];
-    print_writes(write_segments(input, a as usize, &mut out));
-    print::bytes(&out);
-    print::line();
+    print_writes(rt, write_segments(input, a as usize, &mut out))?;
+    print::bytes(rt, &out)?;
+    print::line(rt)
 }
 
-fn print_write(answer: WriteAnswer) {
-    print::text(b"write");
+fn print_write(rt: &impl Print, answer: WriteAnswer) -> io::Result<()> {
+    print::text(rt, b"write")?;
     match answer {
-        WriteAnswer::Refused(why) => {
-            print::refused(why);
-        }
-        WriteAnswer::Written(n) => {
-            print::accepted(n);
-        }
+        WriteAnswer::Refused(why) => print::refused(rt, why),
+        WriteAnswer::Written(n) => print::accepted(rt, n),
     }
 }
 
 // A segment of an unknown kind: PTS, DTS, the kind's byte, then its data.
-pub(crate) fn other(input: &[u8]) {
+pub(crate) fn other(rt: &impl Print, input: &[u8]) -> io::Result<()> {
     if input.len() < 9 {
-        return;
+        return Ok(());
     }
     let pts = u32_at(input, 0);
     let dts = u32_at(input, 4);
     let mut out = [9u8; 32];
-    print_write(encode_other(pts, dts, input[8], &input[9..], &mut out));
-    print::bytes(&out);
-    print::line();
+    print_write(rt, encode_other(pts, dts, input[8], &input[9..], &mut out))?;
+    print::bytes(rt, &out)?;
+    print::line(rt)
 }
 
 // The seven cells of a fragment, 4 bytes each.
@@ -80,30 +75,30 @@ fn write_ods(pts: u32, dts: u32, cells: [u32; 7], data: &[u8], out: &mut [u8]) -
 }
 
 // A fragment: PTS, DTS, its cells, then its data.
-pub(crate) fn ods(input: &[u8]) {
+pub(crate) fn ods(rt: &impl Print, input: &[u8]) -> io::Result<()> {
     if input.len() < 36 {
-        return;
+        return Ok(());
     }
     let pts = u32_at(input, 0);
     let dts = u32_at(input, 4);
     let numbers = cells(input);
     let mut out = [9u8; 40];
-    print_write(write_ods(pts, dts, numbers, &input[36..], &mut out));
-    print::bytes(&out);
-    print::line();
+    print_write(rt, write_ods(pts, dts, numbers, &input[36..], &mut out))?;
+    print::bytes(rt, &out)?;
+    print::line(rt)
 }
 
 // An END: PTS, DTS.
-pub(crate) fn end(input: &[u8]) {
+pub(crate) fn end(rt: &impl Print, input: &[u8]) -> io::Result<()> {
     if input.len() < 8 {
-        return;
+        return Ok(());
     }
     let pts = u32_at(input, 0);
     let dts = u32_at(input, 4);
     let mut out = [9u8; 16];
-    print_write(encode_end(pts, dts, &mut out));
-    print::bytes(&out);
-    print::line();
+    print_write(rt, encode_end(pts, dts, &mut out))?;
+    print::bytes(rt, &out)?;
+    print::line(rt)
 }
 
 // The seven cells at the front of a PCS's, 2 bytes each.
@@ -168,66 +163,97 @@ fn write_pcs(
 }
 
 // Writes the first n records of a list.
-fn put_pcs(pts: u32, dts: u32, cells: [u16; 7], list: &[[u16; 10]], n: usize, out: &mut [u8]) {
+fn put_pcs(
+    rt: &impl Print,
+    pts: u32,
+    dts: u32,
+    cells: [u16; 7],
+    list: &[[u16; 10]],
+    n: usize,
+    out: &mut [u8],
+) -> io::Result<()> {
     if list.len() < n {
-        return;
+        return Ok(());
     }
-    print_write(write_pcs(pts, dts, cells, &list[..n], out));
+    print_write(rt, write_pcs(pts, dts, cells, &list[..n], out))
 }
 
-fn put_wds(pts: u32, dts: u32, list: &[[u16; 5]], n: usize, out: &mut [u8]) {
+fn put_wds(
+    rt: &impl Print,
+    pts: u32,
+    dts: u32,
+    list: &[[u16; 5]],
+    n: usize,
+    out: &mut [u8],
+) -> io::Result<()> {
     if list.len() < n {
-        return;
+        return Ok(());
     }
-    print_write(encode_wds(pts, dts, &list[..n], out));
+    print_write(rt, encode_wds(pts, dts, &list[..n], out))
 }
 
-fn put_pds(pts: u32, dts: u32, cells: [u8; 2], list: &[[u8; 5]], n: usize, out: &mut [u8]) {
+fn put_pds(
+    rt: &impl Print,
+    pts: u32,
+    dts: u32,
+    cells: [u8; 2],
+    list: &[[u8; 5]],
+    n: usize,
+    out: &mut [u8],
+) -> io::Result<()> {
     if list.len() < n {
-        return;
+        return Ok(());
     }
-    print_write(encode_pds(pts, dts, pds_from(cells), &list[..n], out));
+    print_write(rt, encode_pds(pts, dts, pds_from(cells), &list[..n], out))
 }
 
 // A composition: PTS, DTS, its cells, then room for two placements, of which the first a are written.
-pub(crate) fn pcs(input: &[u8], a: u16) {
+pub(crate) fn pcs(rt: &impl Print, input: &[u8], a: u16) -> io::Result<()> {
     if input.len() < 62 {
-        return;
+        return Ok(());
     }
     let pts = u32_at(input, 0);
     let dts = u32_at(input, 4);
     let cells = pcs_cells(&input[8..]);
     let list = [placement(&input[22..]), placement(&input[42..])];
     let mut out = [9u8; 60];
-    put_pcs(pts, dts, cells, &list, a as usize, &mut out);
-    print::bytes(&out);
-    print::line();
+    put_pcs(rt, pts, dts, cells, &list, a as usize, &mut out)?;
+    print::bytes(rt, &out)?;
+    print::line(rt)
 }
 
 // Windows: PTS, DTS, then room for two, of which the first a are written.
-pub(crate) fn wds(input: &[u8], a: u16) {
+pub(crate) fn wds(rt: &impl Print, input: &[u8], a: u16) -> io::Result<()> {
     if input.len() < 28 {
-        return;
+        return Ok(());
     }
     let pts = u32_at(input, 0);
     let dts = u32_at(input, 4);
     let list = [window(&input[8..]), window(&input[18..])];
     let mut out = [9u8; 34];
-    put_wds(pts, dts, &list, a as usize, &mut out);
-    print::bytes(&out);
-    print::line();
+    put_wds(rt, pts, dts, &list, a as usize, &mut out)?;
+    print::bytes(rt, &out)?;
+    print::line(rt)
 }
 
 // A palette: PTS, DTS, its id and version, then room for two entries, of which the first a are written.
-pub(crate) fn pds(input: &[u8], a: u16) {
+pub(crate) fn pds(rt: &impl Print, input: &[u8], a: u16) -> io::Result<()> {
     if input.len() < 20 {
-        return;
+        return Ok(());
     }
     let pts = u32_at(input, 0);
     let dts = u32_at(input, 4);
     let list = [entry(&input[10..]), entry(&input[15..])];
     let mut out = [9u8; 28];
-    put_pds(pts, dts, [input[8], input[9]], &list, a as usize, &mut out);
-    print::bytes(&out);
-    print::line();
+    put_pds(
+        rt,
+        pts,
+        dts,
+        [input[8], input[9]],
+        &list,
+        a as usize,
+        &mut out,
+    )?;
+    print::bytes(rt, &out)?;
+    print::line(rt)
 }

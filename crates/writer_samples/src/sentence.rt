@@ -5,6 +5,7 @@ use pgs_pcs::pcs::{Pcs, PcsAnswer};
 use pgs_segment::segment::{Segment, SegmentAnswer};
 use pgs_writer_base::head::WriteAnswer;
 use pgs_writer_pcs::pcs::encode_pcs;
+use std::io;
 
 // Sign i: every third is an accent.
 fn sign(i: u8) -> [u16; 10] {
@@ -68,97 +69,98 @@ fn numbers() -> Pcs {
     }
 }
 
-fn print_numbers(p: Pcs) {
-    show::text(b", numbers");
-    show::number(p.width as u64);
-    show::number(p.height as u64);
-    show::number(p.frame_rate as u64);
-    show::number(p.composition_number as u64);
-    show::number(p.composition_state as u64);
-    show::number(p.palette_update_flag as u64);
-    show::number(p.palette_id as u64);
-    show::text(b"\n");
+fn print_numbers(rt: &impl Print, p: Pcs) -> io::Result<()> {
+    show::text(rt, b", numbers")?;
+    show::number(rt, p.width as u64)?;
+    show::number(rt, p.height as u64)?;
+    show::number(rt, p.frame_rate as u64)?;
+    show::number(rt, p.composition_number as u64)?;
+    show::number(rt, p.composition_state as u64)?;
+    show::number(rt, p.palette_update_flag as u64)?;
+    show::number(rt, p.palette_id as u64)?;
+    show::text(rt, b"\n")
 }
 
 // The head of the segment, and how many bytes it takes.
-fn read_head(bytes: &[u8]) {
-    show::text(b"read back");
+fn read_head(rt: &impl Print, bytes: &[u8]) -> io::Result<()> {
+    show::text(rt, b"read back")?;
     match Segment::parse(bytes) {
-        SegmentAnswer::Refused(why) => {
-            show::refusal(why);
-        }
+        SegmentAnswer::Refused(why) => { show::refusal(rt, why) }
         SegmentAnswer::Segment(s) => {
             let head = s.header;
-            show::text(b": PTS");
-            show::number(head.pts as u64);
-            show::text(b", DTS");
-            show::number(head.dts as u64);
-            show::text(b", kind");
-            show::byte(head.segment_type);
-            show::text(b", used");
-            show::number(s.used as u64);
+            show::text(rt, b": PTS")?;
+            show::number(rt, head.pts as u64)?;
+            show::text(rt, b", DTS")?;
+            show::number(rt, head.dts as u64)?;
+            show::text(rt, b", kind")?;
+            show::byte(rt, head.segment_type)?;
+            show::text(rt, b", used")?;
+            show::number(rt, s.used as u64)
         }
     }
 }
 
 // The numbers and the placements, which are compared with those that were written.
-fn read_body(body: &[u8], wanted: &[[u16; 10]]) {
+fn read_body(rt: &impl Print, body: &[u8], wanted: &[[u16; 10]]) -> io::Result<()> {
     let mut found = [[0u16; 10]; 255];
     match Pcs::parse(body, &mut found) {
-        PcsAnswer::Refused(why) => {
-            show::refusal(why);
-        }
+        PcsAnswer::Refused(why) => { show::refusal(rt, why) }
         PcsAnswer::Placements(pcs, n) => {
-            print_numbers(pcs);
-            show::text(b"read back");
-            show::number(n as u64);
+            print_numbers(rt, pcs)?;
+            show::text(rt, b"read back")?;
+            show::number(rt, n as u64)?;
             if all_equal(&found, n, wanted) {
-                show::text(b" placements, all equal\n");
+                show::text(rt, b" placements, all equal\n")
             } else {
-                show::text(b" placements, NOT equal\n");
+                show::text(rt, b" placements, NOT equal\n")
             }
         }
     }
 }
 
 // What was written is read again; what lies behind it is as it was.
-fn read_back(answer: WriteAnswer, out: &[u8], wanted: &[[u16; 10]]) {
+fn read_back(
+    rt: &impl Print,
+    answer: WriteAnswer,
+    out: &[u8],
+    wanted: &[[u16; 10]],
+) -> io::Result<()> {
     match answer {
         WriteAnswer::Refused(why) => {
-            show::refusal(why);
-            show::text(b",");
-            show::unchanged(out);
+            show::refusal(rt, why)?;
+            show::text(rt, b",")?;
+            show::unchanged(rt, out)
         }
         WriteAnswer::Written(n) => {
             if n < 13 {
-                return;
+                return Ok(());
             }
             if out.len() < n {
-                return;
+                return Ok(());
             }
-            show::text(b": written");
-            show::number(n as u64);
-            show::text(b" bytes, behind them");
-            show::unchanged(&out[n..]);
-            read_head(out);
-            read_body(&out[13..n], wanted);
+            show::text(rt, b": written")?;
+            show::number(rt, n as u64)?;
+            show::text(rt, b" bytes, behind them")?;
+            show::unchanged(rt, &out[n..])?;
+            read_head(rt, out)?;
+            read_body(rt, &out[13..n], wanted)
         }
     }
 }
 
 // Writes the first n signs, and reads them back.
-fn write_signs(title: &[u8], signs: &[[u16; 10]], n: usize) {
+fn write_signs(rt: &impl Print, title: &[u8], signs: &[[u16; 10]], n: usize) -> io::Result<()> {
     if signs.len() < n {
-        return;
+        return Ok(());
     }
     let mut out = [0xEEu8; 2800];
-    show::text(title);
+    show::text(rt, title)?;
     let answer = encode_pcs(90000, 45000, numbers(), &signs[..n], &mut out);
-    read_back(answer, &out, &signs[..n]);
+    read_back(rt, answer, &out, &signs[..n])
 }
 
-pub(crate) fn samples() {
+pub(crate) fn samples(rt: &impl Print) -> io::Result<()> {
     let signs = sentence();
-    write_signs(b"255 placements", &signs, 255);
-    write_signs(b"256 placements", &signs, 256);
+    write_signs(rt, b"255 placements", &signs, 255)?;
+    write_signs(rt, b"256 placements", &signs, 256)
 }
