@@ -1,7 +1,20 @@
 -- The number of each refusal, from the table of 01, 'Why a call is turned down'.
 use Rattle.std.specs.Prelude.{ℕ}
 use Rattle.pgs_base.specs.declared.refusal.Refusal.{Refusal}
-use Rattle.pgs_base.specs.declared.refusal.Refusal.TheVariants.{TruncatedHeader, BadMagic, TruncatedBody, FieldPastEnd, PartialPaletteEntry, NonEmptyEnd, ZeroLengthSegment, PcsInOpenSet, WdsOutsideSet, PdsOutsideSet, OdsOutsideSet, SecondWds, EndOutsideSet, UnknownOutsideSet, UnterminatedSet, FirstFragmentWhileOpen, DuplicateObject, FragmentWithoutFirst, FragmentAfterLast, UnterminatedObject, DeclaredLengthTooSmall, DeclaredLengthMismatch, TooManyObjects, RunPastWidth, TruncatedEscape, TruncatedLongZeroRun, TruncatedShortColorRun, TruncatedLongColorRun, ShortLine, TooManyLines, PartialLastLine, LineCountMismatch, ObjectNotInSet, BufferTooSmall, NotEncodable, NoSuchSet}
+use Rattle.pgs_base.specs.declared.refusal.Refusal.TheVariants.{TruncatedHeader, BadMagic, TruncatedBody, FieldPastEnd}
+use Rattle.pgs_base.specs.declared.refusal.Refusal.TheVariants.{PartialPaletteEntry, NonEmptyEnd, ZeroLengthSegment}
+use Rattle.pgs_base.specs.declared.refusal.Refusal.TheVariants.{PcsInOpenSet, WdsOutsideSet, PdsOutsideSet}
+use Rattle.pgs_base.specs.declared.refusal.Refusal.TheVariants.{OdsOutsideSet, SecondWds, EndOutsideSet}
+use Rattle.pgs_base.specs.declared.refusal.Refusal.TheVariants.{UnknownOutsideSet, UnterminatedSet}
+use Rattle.pgs_base.specs.declared.refusal.Refusal.TheVariants.{FirstFragmentWhileOpen, DuplicateObject}
+use Rattle.pgs_base.specs.declared.refusal.Refusal.TheVariants.{FragmentWithoutFirst, FragmentAfterLast}
+use Rattle.pgs_base.specs.declared.refusal.Refusal.TheVariants.{UnterminatedObject, DeclaredLengthTooSmall}
+use Rattle.pgs_base.specs.declared.refusal.Refusal.TheVariants.{DeclaredLengthMismatch, TooManyObjects, RunPastWidth}
+use Rattle.pgs_base.specs.declared.refusal.Refusal.TheVariants.{TruncatedEscape, TruncatedLongZeroRun}
+use Rattle.pgs_base.specs.declared.refusal.Refusal.TheVariants.{TruncatedShortColorRun, TruncatedLongColorRun}
+use Rattle.pgs_base.specs.declared.refusal.Refusal.TheVariants.{ShortLine, TooManyLines, PartialLastLine}
+use Rattle.pgs_base.specs.declared.refusal.Refusal.TheVariants.{LineCountMismatch, ObjectNotInSet, BufferTooSmall}
+use Rattle.pgs_base.specs.declared.refusal.Refusal.TheVariants.{NotEncodable, NoSuchSet}
 
 abbrev pub number_of : Refusal → ℕ
 number_of TruncatedHeader = 1

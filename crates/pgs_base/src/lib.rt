@@ -1,4 +1,5 @@
 // What every layer shares: the refusals and their numbers, and big-endian numbers.
 #![tactic(auto)]
+
 pub mod number;
 pub mod refusal;

@@ -1,3 +1,4 @@
 // The pixels of object bitmaps, stored from the run-length code of 01, 'Run-length code'.
 #![tactic(auto)]
+
 pub mod bitmap;

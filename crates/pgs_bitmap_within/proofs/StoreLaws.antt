@@ -78,11 +78,19 @@ module _ {start : List ℕ} {place len at : ℕ} (r : Room start place len at) w
             within = taken-fits;
             order = omega (arith, s.order);
             inside = omega (arith, s.inside, s.same, few.1);
-            same = ap length after ∙ rw (length-append, length-append, length-replicate, front, length-drop) (omega (arith, s.same, s.inside, few.1));
-            kept = ap (drop (out + count)) (after ∙ split) ∙ drop_at stored (drop (out + count) now) (out + count) full ∙ behind;
-            done =
-                ap (λ (l : List ℕ). take (length start) (l ++ rest)) (ap (take (out + count)) (after ∙ split) ∙ take_at stored (drop (out + count) now) (out + count) full ∙ ap (λ (n : ℕ). take out now ++ replicate n ahead.color) {x = count} {y = out + count - out} (omega arith))
-                ∙ run-with-room (length start) out (out + count) ahead.count ahead.color (take out now) rest front (omega arith) (omega (arith, few.0)) (λ h. omega (arith, few.2 (omega arith), s.same, s.inside))
+            same = ap length after
+                ∙ rw (length-append, length-append, length-replicate, front, length-drop)
+                (omega (arith, s.same, s.inside, few.1));
+            kept = ap (drop (out + count)) (after ∙ split)
+                ∙ drop_at stored (drop (out + count) now) (out + count) full
+                ∙ behind;
+            done = ap (λ (l : List ℕ). take (length start) (l ++ rest))
+                (ap (take (out + count)) (after ∙ split)
+                ∙ take_at stored (drop (out + count) now) (out + count) full
+                ∙ ap (λ (n : ℕ). take out now ++ replicate n ahead.color) {x = count} {y = out + count - out}
+                (omega arith))
+                ∙ run-with-room (length start) out (out + count) ahead.count ahead.color (take out now) rest front
+                (omega arith) (omega (arith, few.0)) (λ h. omega (arith, few.2 (omega arith), s.same, s.inside))
                 ∙ ap (λ (l : List ℕ). take (length start) (take out now ++ l)) (sym here.same)
                 ∙ s.done;
           }

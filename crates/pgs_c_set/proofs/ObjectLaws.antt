@@ -10,7 +10,8 @@ use Rattle.pgs_c_set.specs.Sets.{ObjectsCall, objects_call_verdict}
 use Rattle.pgs_reassembly.specs.Objects.{objects_of, objects_verdict}
 use Rattle.pgs_reassembly.specs.Reassembly.{Reassembled}
 
-module _ {s : List ℕ} {k : ℕ} {scratch scratch' : List ℕ} {list list' : List (List ℕ)} {o : Outcome ℕ} (d : Reassembled (objects_verdict k s) (objects_of k s) list list' scratch scratch' o) where
+module _ {s : List ℕ} {k : ℕ} {scratch scratch' : List ℕ} {list list' : List (List ℕ)} {o : Outcome ℕ}
+    (d : Reassembled (objects_verdict k s) (objects_of k s) list list' scratch scratch' o) where
   pub objects-refused : {n r : ℕ} (count : ℕ) → o ≡ refuses n → r ≡ n → ObjectsCall s k scratch scratch' list list' count count r
   objects-refused {n} count e q =
       record { code = code-refused down q; joined = d.written; listed = d.listed; counted = stays (length (objects_of k s)) count down }

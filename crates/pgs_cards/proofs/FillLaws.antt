@@ -152,8 +152,16 @@ module _ (s : List ℕ) where
 
             pub line-fits : k + line_length ≤ length now
             line-fits =
-                omega
-                (arith, w.front.same, ap length w.front.done, length-append (take k now) (open_lines c at (pieces_at s at)), length-take-le k now w.front.within, ap length next, length-append (line_of c) (behind s at c), line-length c)
+                omega (
+                  arith,
+                  w.front.same,
+                  ap length w.front.done,
+                  length-append (take k now) (open_lines c at (pieces_at s at)),
+                  length-take-le k now w.front.within,
+                  ap length next,
+                  length-append (line_of c) (behind s at c),
+                  line-length c,
+                )
 
             pub line-put : {ys : List ℕ} → ys ≡ line_of c
                 → Writing s start (take k now ++ (ys ++ drop (k + line_length - k) (drop k now))) c (at + g.used) (k + line_length)

@@ -24,8 +24,18 @@ module _ (c : List ℕ) where
       module _ (d : get_or c 5 0 ≤ 255) where
         pub palette-large : 255 < get_or c 6 0 → refuses 35 ≡ outcome_of (unless 35 (pcs_cells_fit c)) (pcs_from c)
         palette-large h =
-            simp (lt-ltb (get_or c 2 0) (256 ^ 1) (omega arith), lt-ltb (get_or c 4 0) (256 ^ 1) (omega arith), lt-ltb (get_or c 5 0) (256 ^ 1) (omega arith), le-ltb (get_or c 6 0) (256 ^ 1) (omega arith))
+            simp (
+              lt-ltb (get_or c 2 0) (256 ^ 1) (omega arith),
+              lt-ltb (get_or c 4 0) (256 ^ 1) (omega arith),
+              lt-ltb (get_or c 5 0) (256 ^ 1) (omega arith),
+              le-ltb (get_or c 6 0) (256 ^ 1) (omega arith),
+            )
 
         pub pcs-fit : get_or c 6 0 ≤ 255 → gives (pcs_from c) ≡ outcome_of (unless 35 (pcs_cells_fit c)) (pcs_from c)
         pcs-fit h =
-            simp (lt-ltb (get_or c 2 0) (256 ^ 1) (omega arith), lt-ltb (get_or c 4 0) (256 ^ 1) (omega arith), lt-ltb (get_or c 5 0) (256 ^ 1) (omega arith), lt-ltb (get_or c 6 0) (256 ^ 1) (omega arith))
+            simp (
+              lt-ltb (get_or c 2 0) (256 ^ 1) (omega arith),
+              lt-ltb (get_or c 4 0) (256 ^ 1) (omega arith),
+              lt-ltb (get_or c 5 0) (256 ^ 1) (omega arith),
+              lt-ltb (get_or c 6 0) (256 ^ 1) (omega arith),
+            )

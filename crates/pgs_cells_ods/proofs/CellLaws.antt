@@ -46,15 +46,42 @@ module _ (c : List ℕ) where
     by-dimensions =
         simp (lt-ltb (get_or c 0 0) (256 ^ 2) (omega arith), lt-ltb (get_or c 1 0) (256 ^ 1) (omega arith), lt-ltb (get_or c 2 0) (256 ^ 1) (omega arith))
 
-    pub dimensions-large : {k : ℕ} → refuses k ≡ outcome_of (unless 35 (dimensions_fit (get_or c 4 0) (get_or c 5 0) (get_or c 6 0))) (dimensions_from (get_or c 4 0) (get_or c 5 0) (get_or c 6 0))
+    pub dimensions-large : {k : ℕ}
+        → refuses k
+        ≡ outcome_of (unless 35 (dimensions_fit (get_or c 4 0) (get_or c 5 0) (get_or c 6 0))) (dimensions_from (get_or c 4 0) (get_or c 5 0) (get_or c 6 0))
         → refuses k ≡ outcome_of (unless 35 (ods_cells_fit c)) (ods_from c)
     dimensions-large e =
-        sym (ap (λ (v : Verdict). outcome_of v (ods_from c)) (ap (unless 35) by-dimensions ∙ turned_down (unless 35 (dimensions_fit (get_or c 4 0) (get_or c 5 0) (get_or c 6 0))) (dimensions_from (get_or c 4 0) (get_or c 5 0) (get_or c 6 0)) e))
+        sym
+        (ap (λ (v : Verdict). outcome_of v (ods_from c))
+        (ap (unless 35) by-dimensions
+        ∙ turned_down (unless 35 (dimensions_fit (get_or c 4 0) (get_or c 5 0) (get_or c 6 0)))
+        (dimensions_from (get_or c 4 0) (get_or c 5 0) (get_or c 6 0)) e))
 
-    pub all-fit : {d : Dimensions} → gives d ≡ outcome_of (unless 35 (dimensions_fit (get_or c 4 0) (get_or c 5 0) (get_or c 6 0))) (dimensions_from (get_or c 4 0) (get_or c 5 0) (get_or c 6 0))
-        → gives (record { object_id = get_or c 0 0; object_version_number = get_or c 1 0; last_in_sequence_flag = get_or c 2 0; object_data_length = get_or c 3 0; dimensions = d }) ≡ outcome_of (unless 35 (ods_cells_fit c)) (ods_from c)
+    pub all-fit : {d : Dimensions}
+        → gives d
+        ≡ outcome_of (unless 35 (dimensions_fit (get_or c 4 0) (get_or c 5 0) (get_or c 6 0)))
+        (dimensions_from (get_or c 4 0) (get_or c 5 0) (get_or c 6 0))
+        → gives
+        (record {
+          object_id = get_or c 0 0;
+          object_version_number = get_or c 1 0;
+          last_in_sequence_flag = get_or c 2 0;
+          object_data_length = get_or c 3 0;
+          dimensions = d;
+        })
+        ≡ outcome_of (unless 35 (ods_cells_fit c)) (ods_from c)
     all-fit {d} e =
-        let v = gave (unless 35 (dimensions_fit (get_or c 4 0) (get_or c 5 0) (get_or c 6 0))) (dimensions_from (get_or c 4 0) (get_or c 5 0) (get_or c 6 0)) e in
-        let q = gave-value (unless 35 (dimensions_fit (get_or c 4 0) (get_or c 5 0) (get_or c 6 0))) (dimensions_from (get_or c 4 0) (get_or c 5 0) (get_or c 6 0)) e in
-        ap (λ (x : Dimensions). gives (record { object_id = get_or c 0 0; object_version_number = get_or c 1 0; last_in_sequence_flag = get_or c 2 0; object_data_length = get_or c 3 0; dimensions = x })) q
+        let v = gave (unless 35 (dimensions_fit (get_or c 4 0) (get_or c 5 0) (get_or c 6 0)))
+        (dimensions_from (get_or c 4 0) (get_or c 5 0) (get_or c 6 0)) e in
+        let q = gave-value (unless 35 (dimensions_fit (get_or c 4 0) (get_or c 5 0) (get_or c 6 0)))
+        (dimensions_from (get_or c 4 0) (get_or c 5 0) (get_or c 6 0)) e in
+        ap
+        (λ (x : Dimensions). gives
+        (record {
+          object_id = get_or c 0 0;
+          object_version_number = get_or c 1 0;
+          last_in_sequence_flag = get_or c 2 0;
+          object_data_length = get_or c 3 0;
+          dimensions = x;
+        })) q
         ∙ sym (ap (λ (u : Verdict). outcome_of u (ods_from c)) (ap (unless 35) by-dimensions ∙ v))

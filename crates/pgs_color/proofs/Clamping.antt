@@ -1,6 +1,9 @@
 -- The byte of a channel sum: what the tests against 0 and 255 say of a float `fin s m e`, and what adding 0.5 leaves in range.
 -- Assumes nothing.
-use Rattle.std.proofs.Common.{◌≡◌, ℕ, ◌+◌, ◌*◌, ◌/◌, ◌^◌, ◌<◌, ◌≤◌, Bool, true, false, ◌&&◌, ◌||◌, T, eqb, ltb, leb, ℤ, pos, negsuc, sym, refl, ◌∙◌, inl, inr, true≢false, div-lt_iff_lt-mul, eq-zero-or-pos, eq-or-lt_of_le, zero-mul, mul-one, arith, lit<, lit≤, lt→ltb, ltb-false, ltb-true, le-ltb, lt-ltb, eq-eqb, ne_eqb, le-leb, leb-false, leb-true}
+use Rattle.std.proofs.Common.{◌≡◌, ℕ, ◌+◌, ◌*◌, ◌/◌, ◌^◌, ◌<◌, ◌≤◌, Bool, true, false, ◌&&◌, ◌||◌, T, eqb, ltb, leb, ℤ}
+use Rattle.std.proofs.Common.{pos, negsuc, sym, refl, ◌∙◌, inl, inr, true≢false, div-lt_iff_lt-mul, eq-zero-or-pos}
+use Rattle.std.proofs.Common.{eq-or-lt_of_le, zero-mul, mul-one, arith, lit<, lit≤, lt→ltb, ltb-false, ltb-true, le-ltb}
+use Rattle.std.proofs.Common.{lt-ltb, eq-eqb, ne_eqb, le-leb, leb-false, leb-true}
 use borrow.Author.Tests.{lt-leb}
 use lib.Ieee.{Float, nan, inf, fin, binary32, up, down, round, add, lt, le, of_int, to_unsigned}
 use lib.Ieee.Fits.{down_pos}

@@ -5,7 +5,9 @@
 use mathlib.Core.Path.{◌≡◌, refl, sym, ap, ◌∙◌, subst}
 use mathlib.Core.Bool.{Bool, true, false, not, ◌&&◌, beq, cond}
 use Prim.Native.Nat.{ℕ, suc, ◌+◌, ◌-◌, ◌*◌, ◌/◌, ◌%◌, ◌^◌, ◌≤◌, ◌<◌, compare}
-use native.Mathlib.Nat.{suc-mul, mul-sub, eq_of_mul-eq-mul_right, mul_comm, mul_assoc, mul_right_comm, add-mul, mul-pos, lt_of_lt_of_le, lt_of_not-le, not-le_of_lt, mul-le-mul_right, mul-lt-mul_of_pos_right, lt_of_mul-lt-mul_right, le_of_mul-le-mul_right, div-add-mod', mod-lt, mul-div_cancel}
+use native.Mathlib.Nat.{suc-mul, mul-sub, eq_of_mul-eq-mul_right, mul_comm, mul_assoc, mul_right_comm, add-mul, mul-pos}
+use native.Mathlib.Nat.{lt_of_lt_of_le, lt_of_not-le, not-le_of_lt, mul-le-mul_right, mul-lt-mul_of_pos_right}
+use native.Mathlib.Nat.{lt_of_mul-lt-mul_right, le_of_mul-le-mul_right, div-add-mod', mod-lt, mul-div_cancel}
 use native.Mathlib.Omega.{arith}
 use borrow.Author.Tests.{ltb-true, ltb-false, lt-ltb, le-ltb}
 use lib.Dec.{T, ltb, lit<, lit≤, ltb→lt, nltb→le}
@@ -57,8 +59,15 @@ closest-near a p h =
 rescale : (x : Float) (s : Bool) (w l num den : ℕ) → 0 < l → num * l ≡ w * den → HasValue x s w l → HasValue x s num den
 rescale nan s w l num den p h v = v
 rescale (inf t) s w l num den p h v = v
-rescale (fin t m e) s w l num den p h v =
-    (v.0, eq_of_mul-eq-mul_right l p (m * up e * den) (num * down e) (mul_right_comm (m * up e) den l ∙ ap (λ (x : ℕ). x * den) v.1 ∙ mul_right_comm w (down e) den ∙ ap (λ (x : ℕ). x * down e) (sym h) ∙ mul_right_comm num l (down e)))
+rescale (fin t m e) s w l num den p h v = (
+  v.0,
+  eq_of_mul-eq-mul_right l p (m * up e * den) (num * down e)
+      (mul_right_comm (m * up e) den l
+      ∙ ap (λ (x : ℕ). x * den) v.1
+      ∙ mul_right_comm w (down e) den
+      ∙ ap (λ (x : ℕ). x * down e) (sym h)
+      ∙ mul_right_comm num l (down e)),
+)
 
 -- with j digits more, the last j are dropped
 dropped : (s : Bool) (a j : ℕ) → a < 2 ^ 36 → j ≤ 12 → size (a * 2 ^ 149 / 2 ^ 26) - 24 ≡ 123 + j → Rounded s a

@@ -1,3 +1,4 @@
 // The cursor over a body: numbers read one after another.
 #![tactic(auto)]
+
 pub mod cursor;

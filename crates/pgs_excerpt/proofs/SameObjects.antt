@@ -10,7 +10,11 @@ use lib.ListN.{length, get_or, length-map}
 use Rattle.pgs_base.specs.Outcome.{and_then, unless, pick}
 use Rattle.pgs_base.proofs.Outcomes.{first-accepts, second_holds}
 use Rattle.pgs_segment.specs.OneSegment.{segment_type}
-use Rattle.pgs_reassembly.specs.Objects.{Fragment, Chain, is_ods, fragment_at, fragments_from, fragments_of, id_of, opens_chain, closes_chain, with_id, chains_of, object_id, any_last, ended, joined, data_of, declared_length, state_of, complete, continuing, first_verdict, next_verdict, fragment_verdict, verdict_after, chain_verdict, chains_verdict, fragments_verdict, object_limit, objects_of, objects_verdict}
+use Rattle.pgs_reassembly.specs.Objects.{Fragment, Chain, is_ods, fragment_at, fragments_from, fragments_of, id_of}
+use Rattle.pgs_reassembly.specs.Objects.{opens_chain, closes_chain, with_id, chains_of, object_id, any_last, ended}
+use Rattle.pgs_reassembly.specs.Objects.{joined, data_of, declared_length, state_of, complete, continuing}
+use Rattle.pgs_reassembly.specs.Objects.{first_verdict, next_verdict, fragment_verdict, verdict_after, chain_verdict}
+use Rattle.pgs_reassembly.specs.Objects.{chains_verdict, fragments_verdict, object_limit, objects_of, objects_verdict}
 use Rattle.pgs_set.specs.Sets.{no_set, set_number, DisplaySet, sets_verdict}
 use Rattle.pgs_excerpt.specs.Excerpt.{excerpt, at_start, moved_fragment, moved, SameObjects}
 use Rattle.pgs_excerpt.proofs.Alone.{alone}

@@ -71,7 +71,11 @@ module _ (n : ℕ) where
         let all = render-moved v (length scratch) (length plane) in
         record {
           answered = r.answered ∙ sym (λ i. outcome_of (all i) (answer_of d));
-          stored = r.stored ∙ sym ((λ i. laid (early i) (left_by (content-moved i) (map (moved n) cs)) scratch) ∙ (λ i. laid (early_verdict v d cs (length scratch) (length plane)) (left-moved (content_verdict d cs) i) scratch));
+          stored = r.stored
+              ∙ sym
+              ((λ i. laid (early i) (left_by (content-moved i) (map (moved n) cs)) scratch)
+              ∙ (λ i. laid (early_verdict v d cs (length scratch) (length plane)) (left-moved (content_verdict d cs) i)
+              scratch));
           shown = r.shown ∙ sym (λ i. laid (all i) (picture-moved (colors_in convert d) i) plane);
         }
 

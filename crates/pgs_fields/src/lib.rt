@@ -1,5 +1,6 @@
 // Fields of 1, 2, 3 and 4 bytes at a place. Of a field that the bytes end within, those that are there count.
 #![tactic(auto)]
+
 ghost use Rattle.std.specs.Prelude.{◌≡◌, ◌-◌, length};
 ghost use Rattle.pgs_base.specs.Bytes.{num};
 

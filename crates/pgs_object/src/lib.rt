@@ -1,5 +1,6 @@
 // The objects of a display set and their joined data (01, module 7).
 #![tactic(auto)]
+
 mod chain;
 mod finding;
 mod joining;

@@ -1,3 +1,4 @@
 // The data of an object, as a part of the stream or of the scratch.
 #![tactic(auto)]
+
 pub mod view;

@@ -1,3 +1,4 @@
 // The body of an ODS (01, module 3).
 #![tactic(auto)]
+
 pub mod ods;

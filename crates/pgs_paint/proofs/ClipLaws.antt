@@ -111,6 +111,6 @@ pub clipped-exactly : (p : CompositionObject) (image : Image) (part : Compositio
     → Exactly (index_shown p image) (clipped part image p.object_horizontal_position p.object_vertical_position w h cols rows across down) image w h
 clipped-exactly p image part w h cols rows across down e =
     subst
-    (λ (q : CompositionObjectCrop). Exactly (part_shown q image p.object_horizontal_position p.object_vertical_position) (clipped part image p.object_horizontal_position p.object_vertical_position w h cols rows across down) image w h)
-    e
+    (λ (q : CompositionObjectCrop). Exactly (part_shown q image p.object_horizontal_position p.object_vertical_position)
+    (clipped part image p.object_horizontal_position p.object_vertical_position w h cols rows across down) image w h) e
     (part-exactly part image p.object_horizontal_position p.object_vertical_position w h cols rows across down)

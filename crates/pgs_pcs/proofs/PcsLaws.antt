@@ -11,7 +11,9 @@ use Rattle.pgs_base.specs.Bytes.{num}
 use Rattle.pgs_base.specs.Outcome.{Outcome, gives, refuses, accepted, outcome_of, unless, pick}
 use Rattle.pgs_base.proofs.Outcomes.{first_holds, second_holds, holds}
 use Rattle.pgs_records.specs.Records.{records_fit, records_size}
-use Rattle.pgs_pcs.specs.PcsBody.{cropped, cropping_of, placement_of, placement_size, crop_cells, crop_from, placement_row, placements_of, placement_rows, placement_count, placements_at, pcs_verdict, pcs_list}
+use Rattle.pgs_pcs.specs.PcsBody.{cropped, cropping_of, placement_of, placement_size, crop_cells, crop_from}
+use Rattle.pgs_pcs.specs.PcsBody.{placement_row, placements_of, placement_rows, placement_count, placements_at}
+use Rattle.pgs_pcs.specs.PcsBody.{pcs_verdict, pcs_list}
 use Rattle.pgs_records.specs.declared.BodyList.{BodyList}
 use Rattle.pgs_pcs.specs.declared.pcs.Cropping.{Cropping}
 use Rattle.pgs_pcs.specs.declared.pcs.Cropping.TheVariants.{Uncropped, Cropped}

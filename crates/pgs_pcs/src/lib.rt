@@ -1,3 +1,4 @@
 // The body of a PCS (01, module 3).
 #![tactic(auto)]
+
 pub mod pcs;

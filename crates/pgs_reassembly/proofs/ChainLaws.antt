@@ -10,7 +10,9 @@ use lib.ListN.{length, drop, set, get_or, length-append, drop_of_length-le}
 use Rattle.pgs_base.specs.Outcome.{pick}
 use Rattle.pgs_set.proofs.Choices.{pick_first, pick_second}
 use Rattle.pgs_reassembly.proofs.Lists.{drop-next}
-use Rattle.pgs_reassembly.specs.Objects.{Fragment, Chain, unseen, continuing, complete, id_of, opens_chain, closes_chain, data_place, object_id, with_id, chains_of, any_last, ended, joined, state_of, declared_length, version_of, width_of, height_of}
+use Rattle.pgs_reassembly.specs.Objects.{Fragment, Chain, unseen, continuing, complete, id_of, opens_chain}
+use Rattle.pgs_reassembly.specs.Objects.{closes_chain, data_place, object_id, with_id, chains_of, any_last, ended}
+use Rattle.pgs_reassembly.specs.Objects.{joined, state_of, declared_length, version_of, width_of, height_of}
 use Rattle.pgs_reassembly.specs.Reassembly.{any_more}
 use Rattle.pgs_reassembly.specs.Tables.{fragment_numbers, chain_row, row_with, total, Distinct}
 use Rattle.pgs_reassembly.specs.declared.FragmentNumbers.{FragmentNumbers}
@@ -209,11 +211,16 @@ rows_grown g (c ∷ cs) d e = go (eqb (object_id c) (id_of g)) refl e (rows_grow
     still true q = cc
     still false q = refl
 
-    go : (b : Bool) → eqb (object_id c) (id_of g) ≡ b → pick b (pick (ended c) complete continuing) (state_of (id_of g) cs) ≡ continuing
-        → (state_of (id_of g) cs ≡ continuing → map chain_row (map (extend g) cs)
-        ≡ set (map chain_row cs) (row_with (id_of g) (map chain_row cs)) (grow (get_or (map chain_row cs) (row_with (id_of g) (map chain_row cs)) []) (fragment_numbers g)))
+    go : (b : Bool) → eqb (object_id c) (id_of g) ≡ b
+        → pick b (pick (ended c) complete continuing) (state_of (id_of g) cs) ≡ continuing
+        → (state_of (id_of g) cs ≡ continuing
+        → map chain_row (map (extend g) cs)
+        ≡ set (map chain_row cs) (row_with (id_of g) (map chain_row cs))
+        (grow (get_or (map chain_row cs) (row_with (id_of g) (map chain_row cs)) []) (fragment_numbers g)))
         → chain_row (extend g c) ∷ map chain_row (map (extend g) cs)
-        ≡ set (chain_row c ∷ map chain_row cs) (pick b 0 (suc (row_with (id_of g) (map chain_row cs)))) (grow (get_or (chain_row c ∷ map chain_row cs) (pick b 0 (suc (row_with (id_of g) (map chain_row cs)))) []) (fragment_numbers g))
+        ≡ set (chain_row c ∷ map chain_row cs) (pick b 0 (suc (row_with (id_of g) (map chain_row cs))))
+        (grow (get_or (chain_row c ∷ map chain_row cs) (pick b 0 (suc (row_with (id_of g) (map chain_row cs)))) [])
+        (fragment_numbers g))
     go true r q ih =
         let same : object_id c ≡ id_of g = eqb-true (object_id c) (id_of g) r in
         λ j.

@@ -158,7 +158,8 @@ module _ (s : List ℕ) (at : ℕ) (ok : step_verdict (drop at s) ≡ accepted) 
   none_left e = fragments-here s at ok ∙ go (segment_type (drop at s)) e
     where
       go : (k : SegmentType) → is_end k ≡ true
-          → pick (is_ods k) (fragment_at at (drop at s) ∷ pick (is_end k) [] (fragments_left s (at + used_by (drop at s)))) (pick (is_end k) [] (fragments_left s (at + used_by (drop at s)))) ≡ []
+          → pick (is_ods k) (fragment_at at (drop at s) ∷ pick (is_end k) [] (fragments_left s (at + used_by (drop at s))))
+          (pick (is_end k) [] (fragments_left s (at + used_by (drop at s)))) ≡ []
       go Pcs z = cc
       go Wds z = cc
       go Pds z = cc
@@ -184,8 +185,14 @@ module _ (s : List ℕ) (at : ℕ) (ok : step_verdict (drop at s) ≡ accepted) 
   module _ (kind : is_ods (segment_type (drop at s)) ≡ true) where
     pub data-length : length (fragment_at at (drop at s)).bytes + head_size (flag_of (body_at (drop at s))) ≡ size_of (drop at s)
     data-length =
-        omega
-        (arith, length-drop (head_size (flag_of (body_at (drop at s)))) (body_at (drop at s)), length-take (size_of (drop at s)) (drop 13 (drop at s)), length-drop 13 (drop at s), step-within (drop at s) ok, numbers-within (drop at s) ok kind)
+        omega (
+          arith,
+          length-drop (head_size (flag_of (body_at (drop at s)))) (body_at (drop at s)),
+          length-take (size_of (drop at s)) (drop 13 (drop at s)),
+          length-drop 13 (drop at s),
+          step-within (drop at s) ok,
+          numbers-within (drop at s) ok kind,
+        )
 
     pub data-within : data_place (fragment_at at (drop at s)) + length (fragment_at at (drop at s)).bytes ≤ length s
     data-within = omega (arith, data-length, within-here s at ok)

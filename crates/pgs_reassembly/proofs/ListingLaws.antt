@@ -62,11 +62,19 @@ module _ (rows : List (List ℕ)) where
 
     pub checked-open : (get_or (get_or rows i []) 5 0 ≡ 1 → ⊥) → rows_verdict rows ≡ refused 20
     checked-open e =
-        decides (ap (λ (b : Bool). and_then (unless 20 b) (and_then (unless 21 (leb 4 (get_or (get_or rows i []) 4 0))) (unless 22 (eqb (get_or (get_or rows i []) 4 0 - 4) (get_or (get_or rows i []) 9 0))))) (ne_eqb (get_or (get_or rows i []) 5 0) 1 e))
+        decides
+        (ap
+        (λ (b : Bool). and_then (unless 20 b)
+        (and_then (unless 21 (leb 4 (get_or (get_or rows i []) 4 0)))
+        (unless 22 (eqb (get_or (get_or rows i []) 4 0 - 4) (get_or (get_or rows i []) 9 0)))))
+        (ne_eqb (get_or (get_or rows i []) 5 0) 1 e))
 
     pub checked-small : get_or (get_or rows i []) 5 0 ≡ 1 → get_or (get_or rows i []) 4 0 < 4 → rows_verdict rows ≡ refused 21
     checked-small e h =
-        decides (λ j. and_then (its-end e j) (and_then (unless 21 (lt-leb 4 (get_or (get_or rows i []) 4 0) h j)) (unless 22 (eqb (get_or (get_or rows i []) 4 0 - 4) (get_or (get_or rows i []) 9 0)))))
+        decides
+        (λ j. and_then (its-end e j)
+        (and_then (unless 21 (lt-leb 4 (get_or (get_or rows i []) 4 0) h j))
+        (unless 22 (eqb (get_or (get_or rows i []) 4 0 - 4) (get_or (get_or rows i []) 9 0)))))
 
     pub checked-unequal : get_or (get_or rows i []) 5 0 ≡ 1 → 4 ≤ get_or (get_or rows i []) 4 0 → (get_or (get_or rows i []) 4 0 - 4 ≡ get_or (get_or rows i []) 9 0 → ⊥)
         → rows_verdict rows ≡ refused 22

@@ -21,7 +21,9 @@ use Rattle.pgs_reassembly.proofs.ListingLaws.{rows-verdict, rows-joined, rows-re
 use Rattle.pgs_set.proofs.NumberLaws.{stands_here}
 use Rattle.pgs_set.proofs.SetLaws.{size-read, set_here}
 use Rattle.pgs_set.proofs.WalkLaws.{pieces-here, piece-length}
-use Rattle.pgs_reassembly.specs.Objects.{Fragment, Chain, is_ods, fragment_at, fragments_from, id_of, opens_chain, with_id, joined, chains_of, data_of, chains_verdict, fragments_verdict, verdict_after, fragments_of, objects_of, objects_verdict_within}
+use Rattle.pgs_reassembly.specs.Objects.{Fragment, Chain, is_ods, fragment_at, fragments_from, id_of, opens_chain}
+use Rattle.pgs_reassembly.specs.Objects.{with_id, joined, chains_of, data_of, chains_verdict, fragments_verdict}
+use Rattle.pgs_reassembly.specs.Objects.{verdict_after, fragments_of, objects_of, objects_verdict_within}
 use Rattle.pgs_reassembly.specs.Reassembly.{copied, joined_data, object_rows, Reassembled}
 use Rattle.pgs_set.specs.Sets.{set_number, set_verdict, is_end, through_end, set_count, sets_verdict}
 use Rattle.pgs_reassembly.specs.Tables.{chain_row, total, FoundChains, Rows, Gathered, rows_verdict, joined_in, records_from, row_data, joined_rows, Measured, fragments_left}
@@ -83,7 +85,14 @@ all_from s (x ∷ xs) at e = go (is_end (segment_type (drop at s))) (is_ods (seg
             }
 
         opens : (b : Bool)
-            → AllBegin s (pick b (record { first = fragment_at at (drop at s); further = with_id (id_of (fragment_at at (drop at s))) (fragments_left s (at + used_by (drop at s))) } ∷ chains_of (fragments_left s (at + used_by (drop at s)))) (chains_of (fragments_left s (at + used_by (drop at s)))))
+            → AllBegin s
+            (pick b
+            (record {
+              first = fragment_at at (drop at s);
+              further = with_id (id_of (fragment_at at (drop at s)))
+                  (fragments_left s (at + used_by (drop at s)));
+            } ∷ chains_of (fragments_left s (at + used_by (drop at s))))
+            (chains_of (fragments_left s (at + used_by (drop at s)))))
         opens true = (this, ih)
         opens false = ih
 

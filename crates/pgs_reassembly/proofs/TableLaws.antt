@@ -10,9 +10,13 @@ use lib.Dec.{eqb}
 use lib.ListN.{length, take, set, get_or, length-set, length-map}
 use lib.Seq.{take-suc-set, take-set-lt, length-take-le, get_or-take}
 use Rattle.pgs_base.specs.Outcome.{refused, gives, refuses, pick, unless}
-use Rattle.pgs_reassembly.proofs.ChainLaws.{chain-of, extend, chains-extended, chains-added, extend-none, distinct-extended, distinct-added, state-found, state-unseen, grow, rows_grown, total-append, total-at, total-set}
+use Rattle.pgs_reassembly.proofs.ChainLaws.{chain-of, extend, chains-extended, chains-added, extend-none}
+use Rattle.pgs_reassembly.proofs.ChainLaws.{distinct-extended, distinct-added, state-found, state-unseen, grow}
+use Rattle.pgs_reassembly.proofs.ChainLaws.{rows_grown, total-append, total-at, total-set}
 use Rattle.pgs_set.proofs.Choices.{pick_first, pick_second}
-use Rattle.pgs_reassembly.specs.Objects.{Fragment, Chain, ChainState, unseen, continuing, complete, id_of, closes_chain, data_place, chains_of, state_of, fragment_verdict, first_verdict, next_verdict, width_in, height_in}
+use Rattle.pgs_reassembly.specs.Objects.{Fragment, Chain, ChainState, unseen, continuing, complete, id_of, closes_chain}
+use Rattle.pgs_reassembly.specs.Objects.{data_place, chains_of, state_of, fragment_verdict, first_verdict, next_verdict}
+use Rattle.pgs_reassembly.specs.Objects.{width_in, height_in}
 use Rattle.pgs_reassembly.specs.Tables.{fragment_numbers, chain_row, row_with, total, Holds, Grown, Took}
 use Rattle.pgs_reassembly.specs.declared.FragmentNumbers.{FragmentNumbers}
 
@@ -155,20 +159,29 @@ module _ (table : List (List ℕ)) (n : ℕ) (h : FragmentNumbers) where
       continued-fits k m = rw (get_or-take n table i [] m) at (total-at (take n table) i (rw (length-take-le n table k) m))
 
       pub continued-on : n ≤ length table → i < n → get_or (get_or table i []) 5 0 ≡ 0 → {a : ℕ} → a ≡ pick h.last 1 0 → {r : List ℕ} → r ≡ get_or table i []
-          → Took table (set table i (get_or r 0 0 ∷ get_or r 1 0 ∷ get_or r 2 0 ∷ get_or r 3 0 ∷ get_or r 4 0 ∷ a ∷ 1 ∷ get_or r 7 0 ∷ get_or r 8 0 ∷ (get_or r 9 0 + h.len) ∷ [])) n h (gives n)
+          → Took table (set table i (get_or r 0 0 ∷ get_or r 1 0 ∷ get_or r 2 0 ∷ get_or r 3 0 ∷ get_or r 4 0 ∷ a ∷ 1
+          ∷ get_or r 7 0 ∷ get_or r 8 0 ∷ (get_or r 9 0 + h.len) ∷ [])) n h (gives n)
       continued-on k m z {a} ea {r} er = rw (ea, er) (took_more (set table i (grow (get_or table i []) h)) n grown)
         where
           grown : (fs : List Fragment) (f : Fragment) → Holds fs table n → h ≡ fragment_numbers f → Grown fs f table (set table i (grow (get_or table i []) h)) n n
           grown fs f hs e =
               record {
                 accepts = as-next fs f hs e q open-here;
-                holds =
-                    record {
-                      within = rw length-set hs.within;
-                      rows = taken ∙ (λ j. set (hs.rows j) (index fs f hs e j) (grow (row j) (e j))) ∙ sym (rows_grown f (chains_of fs) hs.distinct open-here) ∙ sym (ap (map chain_row) all);
-                      distinct = rw all (distinct-extended f (chains_of fs) hs.distinct);
-                    };
-                more = omega (arith, ap total taken, total-set (take n table) i h.len (grow (get_or table i []) h) (rw (length-take-le n table k) m) (ap (λ (x : List ℕ). get_or x 9 0 + h.len) (sym (get_or-take n table i [] m))), ap (λ (x : FragmentNumbers). x.len) e);
+                holds = record {
+                  within = rw length-set hs.within;
+                  rows = taken
+                      ∙ (λ j. set (hs.rows j) (index fs f hs e j) (grow (row j) (e j)))
+                      ∙ sym (rows_grown f (chains_of fs) hs.distinct open-here)
+                      ∙ sym (ap (map chain_row) all);
+                  distinct = rw all (distinct-extended f (chains_of fs) hs.distinct);
+                };
+                more = omega (
+                  arith,
+                  ap total taken,
+                  total-set (take n table) i h.len (grow (get_or table i []) h) (rw (length-take-le n table k) m)
+                      (ap (λ (x : List ℕ). get_or x 9 0 + h.len) (sym (get_or-take n table i [] m))),
+                  ap (λ (x : FragmentNumbers). x.len) e,
+                );
               }
             where
               open-here : state_of (id_of f) (chains_of fs) ≡ continuing

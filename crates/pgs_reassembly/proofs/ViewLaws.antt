@@ -91,7 +91,10 @@ module _ (s : List ℕ) where
           → pick (eqb (pick b 1 0) 0) (part_of (pick b (length front) (data_place c.first)) (length (data_of c)) s)
           (pick (eqb (pick b 1 0) 1) (part_of (pick b (length front) (data_place c.first)) (length (data_of c)) (front ++ ((pick b (data_of c) [] ++ joined_data cs) ++ rest))) [])
           ≡ data_of c
-      this true e = ap (λ (l : List ℕ). part_of (length front) (length (data_of c)) (front ++ l)) (append_assoc (data_of c) (joined_data cs) rest) ∙ part-middle front (data_of c) (joined_data cs ++ rest)
+      this true e =
+          ap (λ (l : List ℕ). part_of (length front) (length (data_of c)) (front ++ l))
+          (append_assoc (data_of c) (joined_data cs) rest)
+          ∙ part-middle front (data_of c) (joined_data cs ++ rest)
       this false e = alone c a.0 e
 
       moved : front ++ ((copied_data c ++ joined_data cs) ++ rest) ≡ (front ++ copied_data c) ++ (joined_data cs ++ rest)

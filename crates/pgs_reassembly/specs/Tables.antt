@@ -2,7 +2,10 @@
 -- `pgs_object` cite this; those of its public functions cite `Objects` and `Reassembly`.
 use Rattle.std.specs.Prelude.{ℕ, suc, ◌+◌, ◌-◌, ◌≤◌, ◌≡◌, List, [], ◌∷◌, ◌++◌, map, leb, eqb, length, take, get_or}
 use Rattle.pgs_base.specs.Outcome.{Verdict, accepted, refused, Outcome, gives, refuses, and_then, unless, pick}
-use Rattle.pgs_reassembly.specs.Objects.{Fragment, fragments_from, Chain, unseen, id_of, opens_chain, closes_chain, data_place, width_in, height_in, object_id, version_of, width_of, height_of, declared_length, ended, data_of, state_of, chains_of, fragment_verdict, verdict_after, joined, with_id}
+use Rattle.pgs_reassembly.specs.Objects.{Fragment, fragments_from, Chain, unseen, id_of, opens_chain, closes_chain}
+use Rattle.pgs_reassembly.specs.Objects.{data_place, width_in, height_in, object_id, version_of, width_of, height_of}
+use Rattle.pgs_reassembly.specs.Objects.{declared_length, ended, data_of, state_of, chains_of, fragment_verdict}
+use Rattle.pgs_reassembly.specs.Objects.{verdict_after, joined, with_id}
 use Rattle.pgs_reassembly.specs.Reassembly.{copied, joined_data}
 use Rattle.pgs_set.specs.Sets.{through_end}
 use Rattle.pgs_set.specs.Walks.{pieces_at}

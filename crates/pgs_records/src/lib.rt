@@ -1,5 +1,6 @@
 // What the bodies of segments share: where a body's list or data stands, and the records of such a list.
 #![tactic(auto)]
+
 use pgs_base::refusal::Refusal;
 
 // The part of a body that holds its records (placements, windows, entries) or its data bytes.

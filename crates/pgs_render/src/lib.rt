@@ -1,5 +1,6 @@
 // Painting a display set: 01, module 10.
 #![tactic(auto)]
+
 mod objects;
 mod painting;
 mod palette;

@@ -10,7 +10,10 @@ use lib.ListN.{length, get_or, length-append}
 use Rattle.pgs_base.specs.Outcome.{accepted, unless, pick}
 use Rattle.pgs_base.proofs.Outcomes.{first-accepts, second_holds, holds}
 use Rattle.pgs_bitmap_check.specs.Bitmap.{bitmap_of}
-use Rattle.pgs_reassembly.specs.Objects.{Fragment, Chain, ChainState, unseen, continuing, complete, id_of, opens_chain, with_id, chains_of, width_of, height_of, data_of, data_place, state_of, first_verdict, next_verdict, fragment_verdict, verdict_after, chains_verdict, fragments_verdict, fragments_of, object_limit, objects_of, objects_verdict}
+use Rattle.pgs_reassembly.specs.Objects.{Fragment, Chain, ChainState, unseen, continuing, complete, id_of, opens_chain}
+use Rattle.pgs_reassembly.specs.Objects.{with_id, chains_of, width_of, height_of, data_of, data_place, state_of}
+use Rattle.pgs_reassembly.specs.Objects.{first_verdict, next_verdict, fragment_verdict, verdict_after, chains_verdict}
+use Rattle.pgs_reassembly.specs.Objects.{fragments_verdict, fragments_of, object_limit, objects_of, objects_verdict}
 use Rattle.pgs_set.specs.Sets.{set_number, sets_verdict, set_count}
 use Rattle.pgs_reassembly.specs.Reassembly.{copied, copied_data, joined_data, object_row, rows_from, shown_by}
 use Rattle.pgs_rendering.specs.Images.{area_of, bitmaps_of}
@@ -70,15 +73,20 @@ few-after : (limit : ℕ) (fs earlier : List Fragment) → verdict_after limit e
 few-after limit [] earlier e h = rw append-nil h
 few-after limit (f ∷ fs) earlier e h =
     subst (λ (l : List Fragment). length (chains_of l) ≤ limit) (append_assoc earlier (f ∷ []) fs)
-    (few-after limit fs (earlier ++ (f ∷ [])) (second_holds (fragment_verdict limit (chains_of earlier) f) _ e) (more (opens_chain f) refl (state_of (id_of f) (chains_of earlier)) (first-accepts (fragment_verdict limit (chains_of earlier) f) _ e)))
+    (few-after limit fs (earlier ++ (f ∷ [])) (second_holds (fragment_verdict limit (chains_of earlier) f) _ e)
+    (more (opens_chain f) refl (state_of (id_of f) (chains_of earlier))
+    (first-accepts (fragment_verdict limit (chains_of earlier) f) _ e)))
   where
     more : (b : Bool) → opens_chain f ≡ b → (st : ChainState)
         → pick (opens_chain f) (first_verdict limit (length (chains_of earlier)) st) (next_verdict st) ≡ accepted
         → length (chains_of (earlier ++ (f ∷ []))) ≤ limit
     more false q st a = omega (arith, chains-snoc earlier f, ap (λ (t : Bool). pick {A = ℕ} t 1 0) q, h)
     more true q unseen a =
-        let room : length (chains_of earlier) < limit
-        = ltb-true (length (chains_of earlier)) limit (holds 23 (ltb (length (chains_of earlier)) limit) (sym (ap (λ (t : Bool). pick t (first_verdict limit (length (chains_of earlier)) unseen) (next_verdict unseen)) q) ∙ a)) in
+        let room : length (chains_of earlier) < limit = ltb-true (length (chains_of earlier)) limit
+        (holds 23 (ltb (length (chains_of earlier)) limit)
+        (sym
+        (ap (λ (t : Bool). pick t (first_verdict limit (length (chains_of earlier)) unseen) (next_verdict unseen)) q)
+        ∙ a)) in
         omega (arith, chains-snoc earlier f, ap (λ (t : Bool). pick {A = ℕ} t 1 0) q)
     more true q continuing a = let z : ◌≡◌ {A = ℕ} 0 1 = cc in absurd (omega arith)
     more true q complete a = let z : ◌≡◌ {A = ℕ} 0 1 = cc in absurd (omega arith)

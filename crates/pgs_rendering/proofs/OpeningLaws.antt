@@ -84,7 +84,8 @@ module _ (k : ℕ) (s : List ℕ) where
             objects = front d lists-count;
           }
 
-  pub objects-refused : {n : ℕ} {scratch plane : List ℕ} → objects_verdict k s ≡ refused n → Rendered rgb_of (objects_verdict k s) (set_number k s) (objects_of k s) scratch scratch plane plane (refuses n)
+  pub objects-refused : {n : ℕ} {scratch plane : List ℕ} → objects_verdict k s ≡ refused n
+      → Rendered rgb_of (objects_verdict k s) (set_number k s) (objects_of k s) scratch scratch plane plane (refuses n)
   objects-refused {n} {scratch} {plane} e =
       answers
       (renders-none k s (ap (λ (v : Verdict). and_then v (room_verdict (set_number k s) (objects_of k s) (length scratch) (length plane))) e)) refl

@@ -155,7 +155,12 @@ module _ (k : ℕ) (s : List ℕ) where
         → scratch' ≡ laid accepted (joined_data (objects_of k s)) scratch
     joins {list = list} {scratch = scratch} few room d =
         d.written
-        ∙ (λ j. laid (and_then (l.taken j) (and_then (unless 34 (le-leb (length (objects_of k s)) (length list) (omega (arith, few-accepted k s l.taken)) j)) (unless 34 (le-leb (length (joined_data (objects_of k s))) (length scratch) room j)))) (joined_data (objects_of k s)) scratch)
+        ∙ (λ j. laid
+        (and_then (l.taken j)
+        (and_then
+        (unless 34 (le-leb (length (objects_of k s)) (length list) (omega (arith, few-accepted k s l.taken)) j))
+        (unless 34 (le-leb (length (joined_data (objects_of k s))) (length scratch) room j))))
+        (joined_data (objects_of k s)) scratch)
 
     -- 24 to 33
     pub reads-content : {placements : List (List ℕ)} → placements ≡ map placement_row (placements_in (set_number k s)) → {scratch scratch' : List ℕ}
@@ -243,17 +248,32 @@ module _ (k : ℕ) (s : List ℕ) where
 
   -- how painting ends
   module _ {scratch plane : List ℕ} where
-    pub renders-none : {n : ℕ} → early_verdict (objects_verdict k s) (set_number k s) (objects_of k s) (length scratch) (length plane) ≡ refused n → Rendered rgb_of (objects_verdict k s) (set_number k s) (objects_of k s) scratch scratch plane plane (outcome_of (refused n) (answer_of (set_number k s)))
+    pub renders-none : {n : ℕ}
+        → early_verdict (objects_verdict k s) (set_number k s) (objects_of k s) (length scratch) (length plane)
+        ≡ refused n
+        → Rendered rgb_of (objects_verdict k s) (set_number k s) (objects_of k s) scratch scratch plane plane
+        (outcome_of (refused n) (answer_of (set_number k s)))
     renders-none e =
         record {
-          answered = sym (ap (λ (v : Verdict). outcome_of (and_then v (content_verdict (set_number k s) (objects_of k s))) (answer_of (set_number k s))) e);
-          stored = sym (ap (λ (v : Verdict). laid v (left_by (content_verdict (set_number k s) (objects_of k s)) (objects_of k s)) scratch) e);
-          shown = sym (ap (λ (v : Verdict). laid (and_then v (content_verdict (set_number k s) (objects_of k s))) (picture_of (colors_in rgb_of (set_number k s)) (look_in (objects_of k s)) (set_number k s)) plane) e);
+          answered = sym
+              (ap
+              (λ (v : Verdict). outcome_of (and_then v (content_verdict (set_number k s) (objects_of k s)))
+              (answer_of (set_number k s))) e);
+          stored = sym
+              (ap
+              (λ (v : Verdict). laid v (left_by (content_verdict (set_number k s) (objects_of k s)) (objects_of k s))
+              scratch) e);
+          shown = sym
+              (ap
+              (λ (v : Verdict). laid (and_then v (content_verdict (set_number k s) (objects_of k s)))
+              (picture_of (colors_in rgb_of (set_number k s)) (look_in (objects_of k s)) (set_number k s)) plane) e);
         }
 
     module _ (open-to : early_verdict (objects_verdict k s) (set_number k s) (objects_of k s) (length scratch) (length plane) ≡ accepted) where
       pub renders-joined : {n : ℕ} {scratch' : List ℕ} → content_verdict (set_number k s) (objects_of k s) ≡ refused n
-          → scratch' ≡ laid accepted (joined_data (objects_of k s)) scratch → Rendered rgb_of (objects_verdict k s) (set_number k s) (objects_of k s) scratch scratch' plane plane (outcome_of (refused n) (answer_of (set_number k s)))
+          → scratch' ≡ laid accepted (joined_data (objects_of k s)) scratch
+          → Rendered rgb_of (objects_verdict k s) (set_number k s) (objects_of k s) scratch scratch' plane plane
+          (outcome_of (refused n) (answer_of (set_number k s)))
       renders-joined {n} e q =
           record {
             answered = λ j. outcome_of (and_then (sym open-to j) (sym e j)) (answer_of (set_number k s));

@@ -90,7 +90,10 @@ shown-same s x y r at held e hx hy = go (eqb (get_or r 4 0) 0) refl
     go false q =
         sym (shown-scratch s x r at held away hx)
         ∙ sym (drop-take (get_or r 5 0) (get_or r 6 0) x (omega (arith, held.before away)))
-        ∙ ap (drop (get_or r 5 0)) (sym (take-take (get_or r 5 0 + get_or r 6 0) at x (held.before away)) ∙ ap (take (get_or r 5 0 + get_or r 6 0)) e ∙ take-take (get_or r 5 0 + get_or r 6 0) at y (held.before away))
+        ∙ ap (drop (get_or r 5 0))
+        (sym (take-take (get_or r 5 0 + get_or r 6 0) at x (held.before away))
+        ∙ ap (take (get_or r 5 0 + get_or r 6 0)) e
+        ∙ take-take (get_or r 5 0 + get_or r 6 0) at y (held.before away))
         ∙ drop-take (get_or r 5 0) (get_or r 6 0) y (omega (arith, held.before away))
         ∙ shown-scratch s y r at held away hy
       where
@@ -172,14 +175,20 @@ module _ (s : List ℕ) (rows : List (List ℕ)) (from : ℕ) (start : List ℕ)
             past = omega (arith, c.past);
             same = long ∙ c.same;
             front = ap (take from) e ∙ put_front now new at area fits size from c.past ∙ c.front;
-            left =
-                (λ j. first j ++ (rows_bitmaps s start (drop (i + 1) rows) ++ behind j))
-                ∙ append_assoc (take at now) new (rows_bitmaps s start (drop (i + 1) rows) ++ drop (from + rows_area rows) now)
-                ∙ ap (λ (l : List ℕ). take at now ++ l) (sym (append_assoc new (rows_bitmaps s start (drop (i + 1) rows)) (drop (from + rows_area rows) now)))
-                ∙ (λ j. take at now ++ ((bitmap_of (alike j) ++ rows_bitmaps s start (drop (i + 1) rows)) ++ drop (from + rows_area rows) now))
-                ∙ ap (λ (rs : List (List ℕ)). take at now ++ (rows_bitmaps s start rs ++ drop (from + rows_area rows) now)) (sym (drop-next rows i [] m))
+            left = (λ j. first j ++ (rows_bitmaps s start (drop (i + 1) rows) ++ behind j))
+                ∙ append_assoc (take at now) new
+                (rows_bitmaps s start (drop (i + 1) rows) ++ drop (from + rows_area rows) now)
+                ∙ ap (λ (l : List ℕ). take at now ++ l)
+                (sym (append_assoc new (rows_bitmaps s start (drop (i + 1) rows)) (drop (from + rows_area rows) now)))
+                ∙ (λ j. take at now
+                ++ ((bitmap_of (alike j) ++ rows_bitmaps s start (drop (i + 1) rows)) ++ drop (from + rows_area rows) now))
+                ∙ ap
+                (λ (rs : List (List ℕ)). take at now ++ (rows_bitmaps s start rs ++ drop (from + rows_area rows) now))
+                (sym (drop-next rows i [] m))
                 ∙ c.left;
-            reads = second_holds (reading_of (shown_by s start (get_or rows i [])) (get_or (get_or rows i []) 2 0) (get_or (get_or rows i []) 3 0)).verdict (rows_reading s start (drop (i + 1) rows)) ok;
+            reads = second_holds
+                (reading_of (shown_by s start (get_or rows i [])) (get_or (get_or rows i []) 2 0)
+                (get_or (get_or rows i []) 3 0)) .verdict (rows_reading s start (drop (i + 1) rows)) ok;
           }
         where
           new : List ℕ
@@ -209,7 +218,12 @@ module _ (s : List ℕ) (rows : List (List ℕ)) (from : ℕ) (start : List ℕ)
               ∙ ap (λ (n : ℕ). drop n now) far
 
     pub stored-all : length rows ≤ i → now ≡ take from start ++ (rows_bitmaps s start rows ++ drop (from + rows_area rows) start)
-    stored-all h = sym (take-append-drop at now) ∙ (λ j. take at now ++ drop (end j) now) ∙ ap (λ (rs : List (List ℕ)). take at now ++ (rows_bitmaps s start rs ++ drop (from + rows_area rows) now)) (sym none) ∙ c.left
+    stored-all h =
+        sym (take-append-drop at now)
+        ∙ (λ j. take at now ++ drop (end j) now)
+        ∙ ap (λ (rs : List (List ℕ)). take at now ++ (rows_bitmaps s start rs ++ drop (from + rows_area rows) now))
+        (sym none)
+        ∙ c.left
       where
         none : drop i rows ≡ []
         none = drop_of_length-le rows h

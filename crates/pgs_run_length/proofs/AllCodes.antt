@@ -9,7 +9,9 @@ use native.Mathlib.Omega.{arith}
 use lib.Dec.{eqb, ltb}
 use lib.ListN.{length, drop, length-drop}
 use Rattle.pgs_base.specs.Outcome.{pick}
-use Rattle.pgs_run_length.specs.RunLength.{Code, FirstCode, none, found, truncated, code_of, escape_of, run_of, long_zero_run, short_color_run, long_color_run, bytes_taken, Codes, and_further, codes_within, codes_of}
+use Rattle.pgs_run_length.specs.RunLength.{Code, FirstCode, none, found, truncated, code_of, escape_of, run_of}
+use Rattle.pgs_run_length.specs.RunLength.{long_zero_run, short_color_run, long_color_run, bytes_taken, Codes}
+use Rattle.pgs_run_length.specs.RunLength.{and_further, codes_within, codes_of}
 
 -- of so many bytes a code takes one at least
 data Bounded (size : ℕ) : FirstCode → Type 0 where

@@ -58,7 +58,10 @@ delivers s before after p e w = record {
 -- i of n records are stored in `now`, and the next segment stands at place `at` of the stream s; or nothing is to be stored
 pub data Keeping (s : List ℕ) (n : ℕ) (start now : List SegmentRecord) (i at : ℕ) : Type 0 where
   idle : (k : ℕ) → plan_verdict s (length start) ≡ refused k → n ≡ 0 → now ≡ start → Keeping s n start now i at
-  busy : (rows : List (List ℕ)) → plan_verdict s (length start) ≡ accepted → n ≤ length start → Storing s n (rows_of start) rows i at → now ≡ map record_of rows → Keeping s n start now i at
+  busy : (rows : List (List ℕ))
+      → plan_verdict s (length start) ≡ accepted
+      → n ≤ length start
+      → Storing s n (rows_of start) rows i at → now ≡ map record_of rows → Keeping s n start now i at
 
 has_room : (s : List ℕ) (room : ℕ) → plan_verdict s room ≡ accepted → segment_count s ≤ room
 has_room s room e = leb-true (segment_count s) room (holds 34 (leb (segment_count s) room) (second_holds (stream_verdict s) _ e))

@@ -21,7 +21,9 @@ use Rattle.pgs_views.specs.declared.segment_type.SegmentType.{SegmentType}
 use Rattle.pgs_views.specs.declared.segment_type.SegmentType.TheVariants.{Pds, Ods, Pcs, Wds, End, Other}
 use Rattle.pgs_set.proofs.Choices.{pick_first, pick_second}
 use Rattle.pgs_set.proofs.WalkLaws.{stops-here, step-here, pieces-here, pieces_end, good-end, within-here, stream-after, group-here, stands_on, kind-accepted, type-of-piece, piece-length, head-field}
-use Rattle.pgs_set.specs.Sets.{DisplaySet, no_set, group_verdict, kind_verdict, state_after, is_pcs, is_end, opens, through_end, bytes_in, sets_from, sets_of, set_count, sets_verdict, end_of, set_row, set_rows}
+use Rattle.pgs_set.specs.Sets.{DisplaySet, no_set, group_verdict, kind_verdict, state_after, is_pcs, is_end, opens}
+use Rattle.pgs_set.specs.Sets.{through_end, bytes_in, sets_from, sets_of, set_count, sets_verdict, end_of, set_row}
+use Rattle.pgs_set.specs.Sets.{set_rows}
 use Rattle.pgs_set.specs.Walks.{pieces_at, Standing, InSet, Ends, SetStands, end_from, set_at}
 use Rattle.pgs_set.specs.declared.grouping.Grouping.{Grouping}
 use Rattle.pgs_set.specs.declared.grouping.Grouping.TheVariants.{Outside, Inside}
@@ -104,8 +106,13 @@ module _ (s : List ℕ) where
           ≡ sets_verdict s
       left {v} taken =
           rw (size-read (drop at s) e)
-          ((λ j. and_then (stream-after s at ok j) (and_then (sym taken j) (group_verdict (state_after g t) (pieces_at s (at + used_by (drop at s))))))
-          ∙ ap (and_then (stream_verdict (drop at s))) (ap (λ (x : SegmentType). and_then (kind_verdict g x) (group_verdict (state_after g x) (pieces_at s (at + used_by (drop at s))))) (kind-read (drop at s) e q) ∙ sym (group-here s at ok g))
+          ((λ j. and_then (stream-after s at ok j)
+          (and_then (sym taken j) (group_verdict (state_after g t) (pieces_at s (at + used_by (drop at s))))))
+          ∙ ap (and_then (stream_verdict (drop at s)))
+          (ap
+          (λ (x : SegmentType). and_then (kind_verdict g x)
+          (group_verdict (state_after g x) (pieces_at s (at + used_by (drop at s))))) (kind-read (drop at s) e q)
+          ∙ sym (group-here s at ok g))
           ∙ c.verdict)
 
       pub counts-on : {g' : Grouping} {k : ℕ} → gives g' ≡ outcome_of (kind_verdict g t) (state_after g t) → k ≡ opens t

@@ -1,4 +1,5 @@
 // The display sets of a stream (01, module 6).
 #![tactic(auto)]
+
 pub mod grouping;
 pub mod set;

@@ -1,3 +1,4 @@
 // The stream: all segments, one after another.
 #![tactic(auto)]
+
 pub mod stream;

@@ -97,13 +97,20 @@ module _ (f : SegmentFields) (o : List ℕ) where
 
 -- parts that go to the end
 pub lent-write : (s now : List ℕ) (from at : ℕ) {ys : List ℕ} {a : Outcome ℕ}
-    → Delivered (write_verdict (fields_of (take (length s - from) (drop from s)))) (length (encode (fields_of (take (length s - from) (drop from s))))) (encode (fields_of (take (length s - from) (drop from s)))) (take (length now - at) (drop at now)) ys a
-    → Delivered (write_verdict (fields_of (drop from s))) (length (encode (fields_of (drop from s)))) (encode (fields_of (drop from s))) (drop at now) ys a
+    
+    → Delivered (write_verdict (fields_of (take (length s - from) (drop from s))))
+    (length (encode (fields_of (take (length s - from) (drop from s)))))
+    (encode (fields_of (take (length s - from) (drop from s)))) (take (length now - at) (drop at now)) ys a
+    
+    → Delivered (write_verdict (fields_of (drop from s))) (length (encode (fields_of (drop from s))))
+    (encode (fields_of (drop from s))) (drop at now) ys a
 lent-write s now from at d = rw (to_end from s, to_end at now) at d
 
 -- and such a part, put back
 pub put_back : (o ys : List ℕ) (at : ℕ) → take at o ++ (ys ++ drop (length o - at) (drop at o)) ≡ take at o ++ ys
-put_back o ys at = ap (λ (t : List ℕ). take at o ++ (ys ++ t)) (drop_of_length-le (drop at o) {i = length o - at} (rw length-drop (omega arith))) ∙ ap (λ (t : List ℕ). take at o ++ t) (append-nil ys)
+put_back o ys at =
+    ap (λ (t : List ℕ). take at o ++ (ys ++ t)) (drop_of_length-le (drop at o) {i = length o - at} (rw length-drop (omega arith)))
+    ∙ ap (λ (t : List ℕ). take at o ++ t) (append-nil ys)
 
 module _ (s : List ℕ) (n : ℕ) (start : List ℕ) {now : List ℕ} {i from at done : ℕ} (c : Performing s n start now i from at done) (h : i < n) where
   -- a segment stands here
@@ -138,7 +145,9 @@ module _ (s : List ℕ) (n : ℕ) (start : List ℕ) {now : List ℕ} {i from at
   rest-left = let k : n - i ≡ suc (n - (i + 1)) = omega arith in λ j. take (k j) (fields-left j)
 
   -- the write of this segment
-  module _ (answer : WriteAnswer) {ys : List ℕ} (d : Delivered (write_verdict (fields_of (drop from s))) (length (encode (fields_of (drop from s)))) (encode (fields_of (drop from s))) (drop at now) ys (write_outcome answer)) where
+  module _ (answer : WriteAnswer) {ys : List ℕ}
+      (d : Delivered (write_verdict (fields_of (drop from s))) (length (encode (fields_of (drop from s)))) (encode (fields_of (drop from s))) (drop at now) ys (write_outcome answer))
+      where
     moves : bytes_written answer ≡ moved_by (write_into (fields_of (drop from s)) (drop at now)) (length (encode (fields_of (drop from s))))
     moves = answer-moves (length (encode (fields_of (drop from s)))) answer (write_into (fields_of (drop from s)) (drop at now)) d.answered
 
@@ -181,12 +190,19 @@ module _ (s : List ℕ) (n : ℕ) (start : List ℕ) {now : List ℕ} {i from at
           room = omega (arith, ends-within, written-length);
           same = written-length ∙ c.same;
           few = omega (arith, c.few, counts-one);
-          enough = rw (← drop-drop (used_by (drop from s)) from s) (omega (arith, ap (λ (x : Reading). length x.pieces) left, c.enough));
+          enough = rw (← drop-drop (used_by (drop from s)) from s)
+              (omega (arith, ap (λ (x : Reading). length x.pieces) left, c.enough));
           position = sym (ap (λ (w : Written). w.position) run-left) ∙ c.position;
           output = sym (ap (λ (w : Written). w.output) run-left) ∙ c.output;
-          number =
-              omega
-              (arith, c.number, counts, ap (λ (w : Written). accepted_in w.answers) run-left, accepted-first (write_into (fields_of (drop from s)) (drop at now)) (run (take (n - (i + 1)) (stream_fields (drop (from + used_by (drop from s)) s))) (at + bytes_written answer) (take at now ++ ys)).answers);
+          number = omega (
+                arith,
+                c.number,
+                counts,
+                ap (λ (w : Written). accepted_in w.answers) run-left,
+                accepted-first (write_into (fields_of (drop from s)) (drop at now))
+                    (run (take (n - (i + 1)) (stream_fields (drop (from + used_by (drop from s)) s)))
+                    (at + bytes_written answer) (take at now ++ ys)) .answers,
+              );
         }
 
 -- how the call ends, for an accepted stream and for a refused one

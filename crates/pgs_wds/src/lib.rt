@@ -1,3 +1,4 @@
 // The body of a WDS (01, module 3).
 #![tactic(auto)]
+
 pub mod wds;

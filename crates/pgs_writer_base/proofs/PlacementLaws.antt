@@ -88,9 +88,13 @@ module _ (r : List ℕ) where
     module _ (w : get_or r 1 0 ≤ 255) (v : get_or r 2 0 ≤ 255) where
       before-fits : (fs : List Field) → all_fit fs ≡ true → all_fit (before fs) ≡ true
       before-fits fs e =
-          simp
-          (lt-ltb (get_or r 0 0) (256 ^ 2) (cell 0), lt-ltb (get_or r 1 0) (256 ^ 1) (omega arith), lt-ltb (get_or r 2 0) (256 ^ 1) (omega arith), lt-ltb (get_or r 3 0) (256 ^ 2) (cell 3), lt-ltb (get_or r 4 0) (256 ^ 2) (cell 4))
-          e
+          simp (
+            lt-ltb (get_or r 0 0) (256 ^ 2) (cell 0),
+            lt-ltb (get_or r 1 0) (256 ^ 1) (omega arith),
+            lt-ltb (get_or r 2 0) (256 ^ 1) (omega arith),
+            lt-ltb (get_or r 3 0) (256 ^ 2) (cell 3),
+            lt-ltb (get_or r 4 0) (256 ^ 2) (cell 4),
+          ) e
 
       crop-fits : (t : Bool) → all_fit (crop_fields (pick t Uncropped (Cropped cut))) ≡ true
       crop-fits true = refl
@@ -113,7 +117,10 @@ module _ (r : List ℕ) where
 
   -- the fields of a record, stored one after another
   module _ (at : ℕ) (m : List ℕ) where
-    pub placement-stored : {a b c d e f : List ℕ} → a ≡ sets m at (bytes_of 2 (get_or r 0 0)) → b ≡ sets a (at + 2) (bytes_of 1 (get_or r 1 0)) → c ≡ sets b (at + 3) (bytes_of 1 (get_or r 2 0))
+    pub placement-stored : {a b c d e f : List ℕ}
+        → a ≡ sets m at (bytes_of 2 (get_or r 0 0))
+        → b ≡ sets a (at + 2) (bytes_of 1 (get_or r 1 0))
+        → c ≡ sets b (at + 3) (bytes_of 1 (get_or r 2 0))
         → d ≡ sets c (at + 4) (bytes_of 2 (get_or r 3 0)) → e ≡ sets d (at + 6) (bytes_of 2 (get_or r 4 0)) → f ≡ sets e (at + 8) (written (crop_fields (crop_from r)))
         → f ≡ sets m at (written (placement_fields (placement_from r)))
     placement-stored ea eb ec ed ee ef =
@@ -137,7 +144,10 @@ module _ (r : List ℕ) where
 
 -- a record that can be written has a window id and a flag of one byte each
 module _ (rows : List (List ℕ)) (i : ℕ) (e : placement_rows_fit rows ≡ true) (h : i < length rows) where
-  after-id : pick (ltb (get_or (get_or rows i []) 1 0) 256) (pick (ltb (get_or (get_or rows i []) 2 0) 256) (all_fit (drop 3 (before (get_or rows i []) (crop_fields (crop_from (get_or rows i [])))))) false) false ≡ true
+  after-id : pick (ltb (get_or (get_or rows i []) 1 0) 256)
+      (pick (ltb (get_or (get_or rows i []) 2 0) 256)
+      (all_fit (drop 3 (before (get_or rows i []) (crop_fields (crop_from (get_or rows i [])))))) false) false
+      ≡ true
   after-id =
       let r = get_or rows i [] in
       rest-fits (ltb (get_or r 0 0) 65536) _
@@ -207,9 +217,16 @@ module _ (p d : ℕ) (n : Pcs) (rows : List (List ℕ)) where
   -- of the numbers, the count decides
   count_fits : PcsFits n → all_fit (pcs_fields n (length (map placement_from rows))) ≡ ltb (length rows) 256
   count_fits ok =
-      simp
-      (lt-ltb n.width (256 ^ 2) ok.width, lt-ltb n.height (256 ^ 2) ok.height, lt-ltb n.frame_rate (256 ^ 1) ok.rate, lt-ltb n.composition_number (256 ^ 2) ok.number, lt-ltb n.composition_state (256 ^ 1) ok.state, lt-ltb n.palette_update_flag (256 ^ 1) ok.update, lt-ltb n.palette_id (256 ^ 1) ok.palette, length-map rows placement_from)
-      (sym (pick-self (ltb (length rows) 256)))
+      simp (
+        lt-ltb n.width (256 ^ 2) ok.width,
+        lt-ltb n.height (256 ^ 2) ok.height,
+        lt-ltb n.frame_rate (256 ^ 1) ok.rate,
+        lt-ltb n.composition_number (256 ^ 2) ok.number,
+        lt-ltb n.composition_state (256 ^ 1) ok.state,
+        lt-ltb n.palette_update_flag (256 ^ 1) ok.update,
+        lt-ltb n.palette_id (256 ^ 1) ok.palette,
+        length-map rows placement_from,
+      ) (sym (pick-self (ltb (length rows) 256)))
 
   pub pcs-many : PcsFits n → 255 < length rows → pcs_rows_writable p d n rows ≡ false
   pcs-many ok h =

@@ -29,7 +29,6 @@ after_code-step-requires c = (
   c.loop-code.invariant.narrow,
   c.loop-code.invariant.few,
   c.requires.3,
-
 )
 
 pub loop-code-smaller : goal.loop-code-smaller

@@ -17,7 +17,12 @@ pub overflow_add-at : goal.overflow_add-at
 overflow_add-at c = omega (arith, c.at_once-most.ensures.0)
 
 pub loop-n-preserved : goal.loop-n-preserved
-loop-n-preserved c = (omega arith, literals-join c.args.«data».now c.args.at _ 8 c.loop-n.invariant.1 (literals-said c.args.«data».now (c.args.at + c.loop-n.n) 8 (sym c.eight_literals.ensures ∙ c.if-eight_literals.true)))
+loop-n-preserved c = (
+  omega arith,
+  literals-join c.args.«data».now c.args.at _ 8 c.loop-n.invariant.1
+      (literals-said c.args.«data».now (c.args.at + c.loop-n.n) 8
+      (sym c.eight_literals.ensures ∙ c.if-eight_literals.true)),
+)
 
 pub returns-else-eight_literals : goal.returns-else-eight_literals
 returns-else-eight_literals c = (omega (arith, c.loop-n.invariant.0, c.at_once-most.ensures.0, c.requires), omega (arith, c.loop-n.invariant.0, c.at_once-most.ensures.1), c.loop-n.invariant.1)

@@ -10,13 +10,50 @@ use Rattle.pgs_bitmap_check.proofs.UntestedWidth.{run-here, short-color-here, on
 use Rattle.pgs_bitmap_check.proofs.bitmap.run_at.Goals as goal
 
 pub returns-then-second-lt64 : goal.returns-then-second-lt64
-returns-then-second-lt64 c = let l = c.args.«data».now in let at = c.args.at in (omega (arith, c.stroke_at.ensures.1.order), omega (arith, c.short_count.ensures, c.stroke_at.ensures.0), onward-run (run-here l at (omega arith) c.requires.1 c.requires.2 (run-short-zero (get_or l (at + 1) 0) _ (get_or l (at + 2) 0 ∷ get_or l (at + 3) 0 ∷ []) c.short_count.ensures c.if-second-lt64.true)) c.stroke_at.ensures.1)
+returns-then-second-lt64 c =
+    let l = c.args.«data».now in
+    let at = c.args.at in (
+      omega (arith, c.stroke_at.ensures.1.order),
+      omega (arith, c.short_count.ensures, c.stroke_at.ensures.0),
+      onward-run
+          (run-here l at (omega arith) c.requires.1 c.requires.2
+          (run-short-zero (get_or l (at + 1) 0) _ (get_or l (at + 2) 0 ∷ get_or l (at + 3) 0 ∷ []) c.short_count.ensures
+          c.if-second-lt64.true)) c.stroke_at.ensures.1,
+    )
 
 pub returns-then-second-lt128 : goal.returns-then-second-lt128
-returns-then-second-lt128 c = let l = c.args.«data».now in let at = c.args.at in (omega (arith, c.stroke_at-then-second-lt128.ensures.1.order), omega (arith, c.long_count.ensures.1, c.stroke_at-then-second-lt128.ensures.0), onward-run (run-here l at (omega arith) c.requires.1 c.requires.2 (ap (λ (n : ℕ). found (run n 0) 3) c.long_count.ensures.0 ∙ run-long-zero (get_or l (at + 1) 0) _ (get_or l (at + 2) 0 ∷ get_or l (at + 3) 0 ∷ []) refl c.if-second-lt64.false c.if-second-lt128.true)) c.stroke_at-then-second-lt128.ensures.1)
+returns-then-second-lt128 c =
+    let l = c.args.«data».now in
+    let at = c.args.at in (
+      omega (arith, c.stroke_at-then-second-lt128.ensures.1.order),
+      omega (arith, c.long_count.ensures.1, c.stroke_at-then-second-lt128.ensures.0),
+      onward-run
+          (run-here l at (omega arith) c.requires.1 c.requires.2
+          (ap (λ (n : ℕ). found (run n 0) 3) c.long_count.ensures.0
+          ∙ run-long-zero (get_or l (at + 1) 0) _ (get_or l (at + 2) 0 ∷ get_or l (at + 3) 0 ∷ []) refl
+          c.if-second-lt64.false c.if-second-lt128.true)) c.stroke_at-then-second-lt128.ensures.1,
+    )
 
 pub returns-then-second-lt192 : goal.returns-then-second-lt192
-returns-then-second-lt192 c = let l = c.args.«data».now in let at = c.args.at in (omega (arith, c.pixels_at.ensures.1.order), omega (arith, c.short_count-then-second-lt192.ensures, c.pixels_at.ensures.0), onward-run (short-color-here l at (omega arith) c.requires.1 c.short_count-then-second-lt192.ensures c.if-second-lt128.false c.if-second-lt192.true) c.pixels_at.ensures.1)
+returns-then-second-lt192 c =
+    let l = c.args.«data».now in
+    let at = c.args.at in (
+      omega (arith, c.pixels_at.ensures.1.order),
+      omega (arith, c.short_count-then-second-lt192.ensures, c.pixels_at.ensures.0),
+      onward-run
+          (short-color-here l at (omega arith) c.requires.1 c.short_count-then-second-lt192.ensures
+          c.if-second-lt128.false c.if-second-lt192.true) c.pixels_at.ensures.1,
+    )
 
 pub returns : goal.returns
-returns c = let l = c.args.«data».now in let at = c.args.at in (omega arith, omega (arith, c.long_count-2.ensures.1), onward-run (run-here l at (omega arith) c.requires.1 c.requires.2 (ap (λ (n : ℕ). found (run n (get_or l (at + 3) 0)) 4) c.long_count-2.ensures.0 ∙ run-long-color (get_or l (at + 1) 0) _ (get_or l (at + 2) 0 ∷ get_or l (at + 3) 0 ∷ []) refl c.if-second-lt64.false c.if-second-lt128.false c.if-second-lt192.false)) onward-none)
+returns c =
+    let l = c.args.«data».now in
+    let at = c.args.at in (
+      omega arith,
+      omega (arith, c.long_count-2.ensures.1),
+      onward-run
+          (run-here l at (omega arith) c.requires.1 c.requires.2
+          (ap (λ (n : ℕ). found (run n (get_or l (at + 3) 0)) 4) c.long_count-2.ensures.0
+          ∙ run-long-color (get_or l (at + 1) 0) _ (get_or l (at + 2) 0 ∷ get_or l (at + 3) 0 ∷ []) refl
+          c.if-second-lt64.false c.if-second-lt128.false c.if-second-lt192.false)) onward-none,
+    )

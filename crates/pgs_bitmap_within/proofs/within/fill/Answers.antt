@@ -20,7 +20,15 @@ pub loop-i-smaller : goal.loop-i-smaller
 loop-i-smaller c = omega (arith, c.loop-i.invariant.1.same)
 
 pub loop-i-preserved : goal.loop-i-preserved
-loop-i-preserved c = (omega (arith, c.loop-i.invariant.1.same), rw (zero-add c.loop-i.i) at (filling-stores c.args.pixels.now 0 (length c.args.pixels.now) c.args.color _ _ c.loop-i.invariant.1 (omega (arith, c.loop-i.invariant.1.same)) (omega arith)))
+loop-i-preserved c = (
+  omega (arith, c.loop-i.invariant.1.same),
+  rw (zero-add c.loop-i.i) at
+      (filling-stores c.args.pixels.now 0 (length c.args.pixels.now) c.args.color _ _ c.loop-i.invariant.1
+      (omega (arith, c.loop-i.invariant.1.same)) (omega arith)),
+)
 
 pub returns : goal.returns
-returns c = filling-ends c.args.pixels.now 0 (length c.args.pixels.now) c.args.color _ _ (omega arith) c.loop-i.invariant.1 (omega (arith, c.loop-i.invariant.1.same)) ∙ rw (drop-length c.args.pixels.now, append-nil)
+returns c =
+    filling-ends c.args.pixels.now 0 (length c.args.pixels.now) c.args.color _ _ (omega arith) c.loop-i.invariant.1
+    (omega (arith, c.loop-i.invariant.1.same))
+    ∙ rw (drop-length c.args.pixels.now, append-nil)

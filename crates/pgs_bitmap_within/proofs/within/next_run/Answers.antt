@@ -22,4 +22,7 @@ pub returns-in-LineEnd : goal.returns-in-LineEnd
 returns-in-LineEnd c = ahead-line c.args.«data».now c.args.from c.requires (found_here (goal.at.returns-in-LineEnd c).In-Code ∙ ap first_code c.in-LineEnd.is)
 
 pub returns-in-Truncated : goal.returns-in-Truncated
-returns-in-Truncated c = ahead_none c.args.«data».now c.args.from c.requires (pixels-truncated c.args.«data».now c.args.from (found_here (goal.at.returns-in-Truncated c).In-Code ∙ ap first_code c.in-Truncated.is))
+returns-in-Truncated c =
+    ahead_none c.args.«data».now c.args.from c.requires
+    (pixels-truncated c.args.«data».now c.args.from
+    (found_here (goal.at.returns-in-Truncated c) .In-Code ∙ ap first_code c.in-Truncated.is))

@@ -1,4 +1,3 @@
-
 use Rattle.pgs_c.proofs.bitmap.pgs_decode_rle.Goals as goal
 
 pub returns : goal.returns

@@ -1,4 +1,3 @@
-
 use Rattle.pgs_c.proofs.cards.pgs_cards.Goals as goal
 
 pub returns : goal.returns

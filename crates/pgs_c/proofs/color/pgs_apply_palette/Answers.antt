@@ -1,4 +1,3 @@
-
 use Rattle.pgs_c.proofs.color.pgs_apply_palette.Goals as goal
 
 pub returns : goal.returns

@@ -1,4 +1,3 @@
-
 use Rattle.pgs_c.proofs.color.pgs_clear_palette.Goals as goal
 
 pub returns : goal.returns

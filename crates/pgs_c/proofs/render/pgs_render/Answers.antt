@@ -1,4 +1,3 @@
-
 use Rattle.pgs_c.proofs.render.pgs_render.Goals as goal
 
 pub returns : goal.returns

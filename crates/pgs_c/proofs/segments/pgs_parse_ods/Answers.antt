@@ -1,4 +1,3 @@
-
 use Rattle.pgs_c.proofs.segments.pgs_parse_ods.Goals as goal
 
 pub returns : goal.returns

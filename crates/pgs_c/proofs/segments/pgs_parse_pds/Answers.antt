@@ -1,4 +1,3 @@
-
 use Rattle.pgs_c.proofs.segments.pgs_parse_pds.Goals as goal
 
 pub returns : goal.returns

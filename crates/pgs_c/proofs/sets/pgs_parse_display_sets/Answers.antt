@@ -1,4 +1,3 @@
-
 use Rattle.pgs_c.proofs.sets.pgs_parse_display_sets.Goals as goal
 
 pub returns : goal.returns

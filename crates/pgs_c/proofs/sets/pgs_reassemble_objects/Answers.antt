@@ -1,4 +1,3 @@
-
 use Rattle.pgs_c.proofs.sets.pgs_reassemble_objects.Goals as goal
 
 pub returns : goal.returns

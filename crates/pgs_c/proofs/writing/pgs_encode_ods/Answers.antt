@@ -1,4 +1,3 @@
-
 use Rattle.pgs_c.proofs.writing.pgs_encode_ods.Goals as goal
 
 pub returns : goal.returns

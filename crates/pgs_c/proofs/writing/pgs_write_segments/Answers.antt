@@ -1,4 +1,3 @@
-
 use Rattle.pgs_c.proofs.writing.pgs_write_segments.Goals as goal
 
 pub returns : goal.returns

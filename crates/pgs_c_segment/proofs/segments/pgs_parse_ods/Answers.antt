@@ -10,7 +10,22 @@ use mathlib.Core.Path.{sym, ap, ◌∙◌}
 use Rattle.pgs_c_segment.proofs.segments.pgs_parse_ods.Goals as goal
 
 pub returns-in-Refused : goal.returns-in-Refused
-returns-in-Refused c = let b = c.args.body.now in let e = turned_down (ods_verdict b) (ods_of b, ods_list b) (c.in-Refused.ensures) in record { code = code-refused e c.number.ensures; numbers = stays (ods_cells (ods_of b) (ods_list b)) c.args.ods.now e }
+returns-in-Refused c =
+    let b = c.args.body.now in
+    let e = turned_down (ods_verdict b) (ods_of b, ods_list b) (c.in-Refused.ensures) in
+    record {
+      code = code-refused e c.number.ensures;
+      numbers = stays (ods_cells (ods_of b) (ods_list b)) c.args.ods.now e;
+    }
 
 pub returns-in-Fragment : goal.returns-in-Fragment
-returns-in-Fragment c = let b = c.args.body.now in let e = c.in-Fragment.ensures in let ok = gave (ods_verdict b) (ods_of b, ods_list b) e in record { code = code-accepted ok; numbers = turns c.args.ods.now ok (c.ods_cells.ensures ∙ ap (λ (p : Ods × BodyList). ods_cells p.0 p.1) (gave-value (ods_verdict b) (ods_of b, ods_list b) e)) }
+returns-in-Fragment c =
+    let b = c.args.body.now in
+    let e = c.in-Fragment.ensures in
+    let ok = gave (ods_verdict b) (ods_of b, ods_list b) e in
+    record {
+      code = code-accepted ok;
+      numbers = turns c.args.ods.now ok
+          (c.ods_cells.ensures
+          ∙ ap (λ (p : Ods × BodyList). ods_cells p.0 p.1) (gave-value (ods_verdict b) (ods_of b, ods_list b) e));
+    }

@@ -9,7 +9,20 @@ use mathlib.Core.Path.{ap, ◌∙◌}
 use Rattle.pgs_c_segment.proofs.segments.pgs_parse_pcs.Goals as goal
 
 pub returns-in-Refused : goal.returns-in-Refused
-returns-in-Refused c = let d = c.parse.ensures in let b = c.args.body.now in let e = ap pcs_outcome c.in-Refused.is in record { call = list-refused d (placement_count b) c.args.count.now e c.number.ensures; numbers = stays (pcs_cells (pcs_of b)) c.args.pcs.now (down d e) }
+returns-in-Refused c =
+    let d = c.parse.ensures in
+    let b = c.args.body.now in
+    let e = ap pcs_outcome c.in-Refused.is in
+    record {
+      call = list-refused d (placement_count b) c.args.count.now e c.number.ensures;
+      numbers = stays (pcs_cells (pcs_of b)) c.args.pcs.now (down d e);
+    }
 
 pub returns-in-Placements : goal.returns-in-Placements
-returns-in-Placements c = let d = c.parse.ensures in let e = ap pcs_outcome c.in-Placements.is in record { call = list-accepted d c.args.count.now e (ap (λ (p : Pcs × ℕ). p.1) (value d e)); numbers = turns c.args.pcs.now (up d e) (c.pcs_cells.ensures ∙ ap (λ (p : Pcs × ℕ). pcs_cells p.0) (value d e)) }
+returns-in-Placements c =
+    let d = c.parse.ensures in
+    let e = ap pcs_outcome c.in-Placements.is in
+    record {
+      call = list-accepted d c.args.count.now e (ap (λ (p : Pcs × ℕ). p.1) (value d e));
+      numbers = turns c.args.pcs.now (up d e) (c.pcs_cells.ensures ∙ ap (λ (p : Pcs × ℕ). pcs_cells p.0) (value d e));
+    }

@@ -6,4 +6,8 @@ use borrow.Author.Rules.{rules}
 use Rattle.pgs_c_told.proofs.told.told.Goals as goal
 
 pub returns-in-Refused : goal.returns-in-Refused
-returns-in-Refused c = record { value = c.number.ensures ∙ sym (ap (λ (a : WriteAnswer). code_by (write_outcome a)) c.in-Refused.is); written_after = sym (ap (λ (a : WriteAnswer). set_by (write_outcome a) c.args.written.now) c.in-Refused.is) }
+returns-in-Refused c =
+    record {
+      value = c.number.ensures ∙ sym (ap (λ (a : WriteAnswer). code_by (write_outcome a)) c.in-Refused.is);
+      written_after = sym (ap (λ (a : WriteAnswer). set_by (write_outcome a) c.args.written.now) c.in-Refused.is);
+    }

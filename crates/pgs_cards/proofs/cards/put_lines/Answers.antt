@@ -15,4 +15,6 @@ pub fill_lines-requires : goal.fill_lines-requires
 fill_lines-requires c = record { s_value = c.requires.s_value; s_in_bounds = omega (arith, card-lines-length c.args.s.now, c.requires.n_value, c.if-out-need.false) }
 
 pub returns : goal.returns
-returns c = delivers-all refl (omega (arith, card-lines-length c.args.s.now, c.requires.n_value, c.if-out-need.false)) (omega (arith, card-lines-length c.args.s.now, c.requires.n_value)) c.fill_lines.ensures
+returns c =
+    delivers-all refl (omega (arith, card-lines-length c.args.s.now, c.requires.n_value, c.if-out-need.false))
+    (omega (arith, card-lines-length c.args.s.now, c.requires.n_value)) c.fill_lines.ensures

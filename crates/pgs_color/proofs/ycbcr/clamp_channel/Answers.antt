@@ -14,7 +14,11 @@ between c = middle c.args.v c.if-v.false c.if-v-2.true
 
 pub truncating_f32_to_u64-requires : goal.truncating_f32_to_u64-requires
 unfolding of_bits of_int
-truncating_f32_to_u64-requires c = record { lower_bound = (between (goal.at.truncating_f32_to_u64-requires c).Then-v-2).above; upper_bound = (between (goal.at.truncating_f32_to_u64-requires c).Then-v-2).below }
+truncating_f32_to_u64-requires c =
+    record {
+      lower_bound = (between (goal.at.truncating_f32_to_u64-requires c) .Then-v-2) .above;
+      upper_bound = (between (goal.at.truncating_f32_to_u64-requires c) .Then-v-2) .below;
+    }
 
 pub overflow_cast-result : goal.overflow_cast-result
 unfolding of_bits of_int

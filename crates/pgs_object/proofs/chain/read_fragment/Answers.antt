@@ -29,10 +29,23 @@ pub overflow_add-result : goal.overflow_add-result
 overflow_add-result c = omega (arith, within c.args.s.now c.args.at c.requires.s_value c.requires.used_value, c.requires.used_value)
 
 pub overflow_add-result-in-Fragment : goal.overflow_add-result-in-Fragment
-overflow_add-result-in-Fragment c = let s = c.args.s.now in let p = numbers-read s c.args.at c.requires.used_value (c.in-Fragment.ensures) in omega (arith, within c.args.s.now c.args.at c.requires.s_value c.requires.used_value, c.requires.used_value, numbers-within (drop c.args.at s) c.requires.s_value c.requires.s_value_2, ap (λ (x : BodyList). x.start) p.1)
+overflow_add-result-in-Fragment c =
+    let s = c.args.s.now in
+    let p = numbers-read s c.args.at c.requires.used_value (c.in-Fragment.ensures) in
+    omega (
+      arith,
+      within c.args.s.now c.args.at c.requires.s_value c.requires.used_value,
+      c.requires.used_value,
+      numbers-within (drop c.args.at s) c.requires.s_value c.requires.s_value_2,
+      ap (λ (x : BodyList). x.start) p.1,
+    )
 
 pub returns-in-Fragment : goal.returns-in-Fragment
-returns-in-Fragment c = let s = c.args.s.now in head_read c.args.at (drop c.args.at s) (numbers-read s c.args.at c.requires.used_value (c.in-Fragment.ensures)) c.width_in.ensures c.height_in.ensures c.from_raw.ensures c.is_first.ensures c.from_raw-in-Fragment.ensures c.is_last.ensures
+returns-in-Fragment c =
+    let s = c.args.s.now in
+    head_read c.args.at (drop c.args.at s) (numbers-read s c.args.at c.requires.used_value (c.in-Fragment.ensures))
+    c.width_in.ensures c.height_in.ensures c.from_raw.ensures c.is_first.ensures c.from_raw-in-Fragment.ensures
+    c.is_last.ensures
 
 pub returns-in-Refused : goal.returns-in-Refused
 returns-in-Refused c = absurd (never-refused c.args.s.now c.args.at c.requires.used_value c.requires.s_value c.requires.s_value_2 (c.in-Refused.ensures))

@@ -15,13 +15,18 @@ pub find_in_set-requires : goal.find_in_set-requires
 find_in_set-requires c = tests-open c.args.s.now c.args.count c.requires.count_value c.loop-i.invariant c.loop-i-test.true c.header_at-header.ensures
 
 pub returns-in-Refused : goal.returns-in-Refused
-returns-in-Refused c = tests-refusal c.args.s.now c.args.count c.requires.count_value c.loop-i.invariant c.loop-i-test.true c.header_at-header.ensures c.find_in_set.ensures (ap found_outcome c.in-Refused.is)
+returns-in-Refused c =
+    tests-refusal c.args.s.now c.args.count c.requires.count_value c.loop-i.invariant c.loop-i-test.true
+    c.header_at-header.ensures c.find_in_set.ensures (ap found_outcome c.in-Refused.is)
 
 pub set_end-at-requires : goal.set_end-at-requires
 set_end-at-requires c = tests-open c.args.s.now c.args.count c.requires.count_value c.loop-i.invariant c.loop-i-test.true c.header_at-header.ensures
 
 pub loop-i-preserved : goal.loop-i-preserved
-loop-i-preserved c = tests-on c.args.s.now c.args.count c.requires.count_value c.loop-i.invariant c.loop-i-test.true c.header_at-header.ensures c.find_in_set.ensures (ap found_outcome c.in-Found.is) c.set_end-at.ensures c.find_in_set.auto.table
+loop-i-preserved c =
+    tests-on c.args.s.now c.args.count c.requires.count_value c.loop-i.invariant c.loop-i-test.true
+    c.header_at-header.ensures c.find_in_set.ensures (ap found_outcome c.in-Found.is) c.set_end-at.ensures
+    c.find_in_set.auto.table
 
 pub returns : goal.returns
 returns c = tests-all c.args.s.now c.args.count c.requires.count_value c.loop-i.invariant c.loop-i-test.false

@@ -18,4 +18,12 @@ pub returns-in-Refused : goal.returns-in-Refused
 returns-in-Refused c = let s = c.args.s.now in let k = c.args.set in no-set (length c.args.table.now) k s (turned_down (set_verdict k s) (set_row (set_number k s)) (c.in-Refused.ensures.answered))
 
 pub returns-in-Set : goal.returns-in-Set
-returns-in-Set c = let s = c.args.s.now in let k = c.args.set in let a = gave (set_verdict k s) (set_row (set_number k s)) (c.in-Set.ensures.answered) in rw (set-verdict s k (c.find_set.ensures.stands _ _ _ (ap set_outcome c.in-Set.is)) c.header_at-header.ensures (length c.args.table.now) a, set-objects s k (c.find_set.ensures.stands _ _ _ (ap set_outcome c.in-Set.is)) c.header_at-header.ensures) c.find_in_set.ensures
+returns-in-Set c =
+    let s = c.args.s.now in
+    let k = c.args.set in
+    let a = gave (set_verdict k s) (set_row (set_number k s)) (c.in-Set.ensures.answered) in
+    rw (
+      set-verdict s k (c.find_set.ensures.stands _ _ _ (ap set_outcome c.in-Set.is)) c.header_at-header.ensures
+          (length c.args.table.now) a,
+      set-objects s k (c.find_set.ensures.stands _ _ _ (ap set_outcome c.in-Set.is)) c.header_at-header.ensures,
+    ) c.find_in_set.ensures

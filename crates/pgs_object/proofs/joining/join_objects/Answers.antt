@@ -11,7 +11,14 @@ pub loop-i-preserved-then-row-eq0 : goal.loop-i-preserved-then-row-eq0
 loop-i-preserved-then-row-eq0 c = places-none c.args.s.now c.args.rows.now c.loop-i.invariant c.loop-i-test.true c.if-row-eq0.true
 
 pub overflow_add-end : goal.overflow_add-end
-overflow_add-end c = omega (arith, c.well_formed.1.1.0.0, c.loop-i.invariant.front.same, places-within c.args.s.now c.args.rows.now c.loop-i.invariant c.loop-i-test.true c.if-row-eq0.false c.requires.rows_in_bounds)
+overflow_add-end c =
+    omega (
+      arith,
+      c.well_formed.1.1.0.0,
+      c.loop-i.invariant.front.same,
+      places-within c.args.s.now c.args.rows.now c.loop-i.invariant c.loop-i-test.true c.if-row-eq0.false
+          c.requires.rows_in_bounds,
+    )
 
 pub slice_bounds-join_chain-end : goal.slice_bounds-join_chain-end
 slice_bounds-join_chain-end c = omega (arith, places-within c.args.s.now c.args.rows.now c.loop-i.invariant c.loop-i-test.true c.if-row-eq0.false c.requires.rows_in_bounds)

@@ -19,7 +19,14 @@ pub returns-then-row : goal.returns-then-row
 returns-then-row c = refuses-as (joined_in c.args.rows.now) (checked-unequal c.args.rows.now c.loop-i.invariant c.loop-i-test.true c.if-row-ne1.false c.if-row-lt4.false c.if-row.true)
 
 pub overflow_add-joined : goal.overflow_add-joined
-overflow_add-joined c = omega (arith, joined-total c.args.rows.now, c.requires, (checks-on c.args.rows.now c.loop-i.invariant c.loop-i-test.true c.if-row-ne1.false c.if-row-lt4.false c.if-row.false c.copied_length-joined.ensures).joins)
+overflow_add-joined c =
+    omega (
+      arith,
+      joined-total c.args.rows.now,
+      c.requires,
+      (checks-on c.args.rows.now c.loop-i.invariant c.loop-i-test.true c.if-row-ne1.false c.if-row-lt4.false
+          c.if-row.false c.copied_length-joined.ensures) .joins,
+    )
 
 pub loop-i-preserved : goal.loop-i-preserved
 loop-i-preserved c = checks-on c.args.rows.now c.loop-i.invariant c.loop-i-test.true c.if-row-ne1.false c.if-row-lt4.false c.if-row.false c.copied_length-joined.ensures

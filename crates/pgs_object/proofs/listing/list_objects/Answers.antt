@@ -14,7 +14,14 @@ pub bounds-objects-i : goal.bounds-objects-i
 bounds-objects-i c = omega (arith, c.loop-i.invariant.front.same, c.loop-i-test.true, c.requires.rows_in_bounds)
 
 pub overflow_add-at : goal.overflow_add-at
-overflow_add-at c = omega (arith, joined-total c.args.rows.now, c.requires.rows_bound, (lists-on c.args.rows.now c.loop-i.invariant c.loop-i-test.true c.requires.rows_in_bounds c.object_record.ensures c.copied_length-at.ensures).joins)
+overflow_add-at c =
+    omega (
+      arith,
+      joined-total c.args.rows.now,
+      c.requires.rows_bound,
+      (lists-on c.args.rows.now c.loop-i.invariant c.loop-i-test.true c.requires.rows_in_bounds
+          c.object_record.ensures c.copied_length-at.ensures) .joins,
+    )
 
 pub loop-i-preserved : goal.loop-i-preserved
 loop-i-preserved c = lists-on c.args.rows.now c.loop-i.invariant c.loop-i-test.true c.requires.rows_in_bounds c.object_record.ensures c.copied_length-at.ensures

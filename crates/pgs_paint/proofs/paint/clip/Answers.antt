@@ -9,5 +9,8 @@ returns c =
     let args = c.args in
     let part = c.part_of-part in
     let across = c.visible in
-    let down = c.visible-2 in record { bounds = clipped-inside part.result (image_of args.image_width args.image_height []) _ _ _ _ _ _ across.ensures down.ensures; by_index = λ indices.
-          clipped-exactly args.placement (image_of args.image_width args.image_height indices) part.result _ _ _ _ across.ensures down.ensures part.ensures }
+    let down = c.visible-2 in record {
+      bounds = clipped-inside part.result (image_of args.image_width args.image_height []) _ _ _ _ _ _ across.ensures down.ensures;
+      by_index = λ indices.
+          clipped-exactly args.placement (image_of args.image_width args.image_height indices) part.result _ _ _ _ across.ensures down.ensures part.ensures;
+    }

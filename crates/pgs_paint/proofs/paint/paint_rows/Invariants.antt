@@ -13,7 +13,8 @@ use Rattle.pgs_paint.proofs.paint.paint_rows.Given as goal
 abbrev pub invariant-loop-j : goal.invariant-loop-j
 invariant-loop-j l =
     (l.j ≤ l.rows) × (length l.plane ≡ length l.initial.plane)
-    × ((layer : Layer) → Exactly layer l.s (image_of l.image_width l.image_height l.bitmap) l.width l.height → l.plane ≡ first_rows (table_color l.table) layer l.width (l.s.y + l.j) l.initial.plane)
+    × ((layer : Layer) → Exactly layer l.s (image_of l.image_width l.image_height l.bitmap) l.width l.height
+    → l.plane ≡ first_rows (table_color l.table) layer l.width (l.s.y + l.j) l.initial.plane)
 
 abbrev pub decreases-loop-j : goal.decreases-loop-j
 decreases-loop-j l = l.rows - l.j

@@ -32,10 +32,16 @@ pub bounds-list-i : goal.bounds-list-i
 bounds-list-i c = omega (arith, c.loop-i.invariant.front.same)
 
 pub overflow_add-at : goal.overflow_add-at
-overflow_add-at c = rw (c.placement_size-size.ensures ∙ ap placement_size (to_end c.loop-i.at c.args.body.now)) (record { fits = omega (arith, next_fits _ _ _ _ c.loop-i.invariant c.loop-i-test.true) })
+overflow_add-at c =
+    rw (c.placement_size-size.ensures ∙ ap placement_size (to_end c.loop-i.at c.args.body.now))
+    (record { fits = omega (arith, next_fits _ _ _ _ c.loop-i.invariant c.loop-i-test.true) })
 
 pub loop-i-preserved : goal.loop-i-preserved
-loop-i-preserved c = rw (c.placement_size-size.ensures ∙ ap placement_size (to_end c.loop-i.at c.args.body.now)) (turn row placement_size _ _ c.loop-i.invariant c.loop-i-test.true c.«record».result (c.«record».ensures ∙ ap placement_row (c.read.ensures ∙ ap placement_of (to_end c.loop-i.at c.args.body.now))) c.requires.n_in_bounds)
+loop-i-preserved c =
+    rw (c.placement_size-size.ensures ∙ ap placement_size (to_end c.loop-i.at c.args.body.now))
+    (turn row placement_size _ _ c.loop-i.invariant c.loop-i-test.true c.«record».result
+    (c.«record».ensures ∙ ap placement_row (c.read.ensures ∙ ap placement_of (to_end c.loop-i.at c.args.body.now)))
+    c.requires.n_in_bounds)
 
 pub returns : goal.returns
 returns c = stored-rows placement_row placement_of placement_size _ _ _ c.loop-i.invariant c.loop-i-test.false

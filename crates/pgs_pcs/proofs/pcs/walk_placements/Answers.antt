@@ -16,7 +16,11 @@ pub overflow_sub-rest : goal.overflow_sub-rest
 overflow_sub-rest c = c.loop-left.invariant.inside
 
 pub returns-then-rest-lt8 : goal.returns-then-rest-lt8
-returns-then-rest-lt8 c = let b = c.args.body.now in cut-placement b c.args.n (walk-cut placement_size b c.args.n 11 c.loop-left.invariant c.loop-left-test.true (omega (arith, size-least (drop c.loop-left.at b), c.if-rest-lt8.true)))
+returns-then-rest-lt8 c =
+    let b = c.args.body.now in
+    cut-placement b c.args.n
+    (walk-cut placement_size b c.args.n 11 c.loop-left.invariant c.loop-left-test.true
+    (omega (arith, size-least (drop c.loop-left.at b), c.if-rest-lt8.true)))
 
 pub slice_bounds-placement_size-count : goal.slice_bounds-placement_size-count
 slice_bounds-placement_size-count c = c.loop-left.invariant.inside
@@ -25,16 +29,28 @@ pub slice_bounds-placement_size-start : goal.slice_bounds-placement_size-start
 slice_bounds-placement_size-start c = omega (arith, c.loop-left.invariant.inside)
 
 pub returns-then-rest-size : goal.returns-then-rest-size
-returns-then-rest-size c = let b = c.args.body.now in cut-placement b c.args.n (walk-cut placement_size b c.args.n 11 c.loop-left.invariant c.loop-left-test.true (rw (← (c.placement_size-size.ensures ∙ ap placement_size (to_end c.loop-left.at c.args.body.now))) c.if-rest-size.true))
+returns-then-rest-size c =
+    let b = c.args.body.now in
+    cut-placement b c.args.n
+    (walk-cut placement_size b c.args.n 11 c.loop-left.invariant c.loop-left-test.true
+    (rw (← (c.placement_size-size.ensures ∙ ap placement_size (to_end c.loop-left.at c.args.body.now)))
+    c.if-rest-size.true))
 
 pub overflow_add-at : goal.overflow_add-at
 overflow_add-at c = omega (arith, c.if-rest-size.false, c.loop-left.invariant.inside)
 
 pub loop-left-preserved : goal.loop-left-preserved
-loop-left-preserved c = rw (c.placement_size-size.ensures ∙ ap placement_size (to_end c.loop-left.at c.args.body.now)) (walk-on placement_size c.args.body.now c.args.n 11 c.loop-left.invariant c.loop-left-test.true (rw (← (c.placement_size-size.ensures ∙ ap placement_size (to_end c.loop-left.at c.args.body.now))) c.if-rest-size.false))
+loop-left-preserved c =
+    rw (c.placement_size-size.ensures ∙ ap placement_size (to_end c.loop-left.at c.args.body.now))
+    (walk-on placement_size c.args.body.now c.args.n 11 c.loop-left.invariant c.loop-left-test.true
+    (rw (← (c.placement_size-size.ensures ∙ ap placement_size (to_end c.loop-left.at c.args.body.now)))
+    c.if-rest-size.false))
 
 pub overflow_sub-result : goal.overflow_sub-result
 overflow_sub-result c = c.loop-left.invariant.past
 
 pub returns : goal.returns
-returns c = let b = c.args.body.now in whole-placements b c.args.n (walked_all placement_size b c.args.n 11 c.loop-left.invariant c.loop-left-test.false) (walked-size placement_size b c.args.n 11 c.loop-left.invariant c.loop-left-test.false)
+returns c =
+    let b = c.args.body.now in
+    whole-placements b c.args.n (walked_all placement_size b c.args.n 11 c.loop-left.invariant c.loop-left-test.false)
+    (walked-size placement_size b c.args.n 11 c.loop-left.invariant c.loop-left-test.false)

@@ -9,7 +9,14 @@ pub slice_bounds-render_body-end : goal.slice_bounds-render_body-end
 slice_bounds-render_body-end c = omega (arith, found_within c.args.set c.args.s.now c.requires.set_stands (head_of c.args.s.now c.args.place (c.in-Header.ensures)))
 
 pub render_body-requires : goal.render_body-requires
-render_body-requires c = record { listed = c.requires.listed; opened = found-opened c.args.set c.args.s.now c.requires.set_stands (head_of c.args.s.now c.args.place (c.in-Header.ensures)); composed = found-composed c.args.set c.args.s.now c.requires.set_stands (head_of c.args.s.now c.args.place (c.in-Header.ensures)) c.requires.pts_value }
+render_body-requires c =
+    record {
+      listed = c.requires.listed;
+      opened = found-opened c.args.set c.args.s.now c.requires.set_stands
+          (head_of c.args.s.now c.args.place (c.in-Header.ensures));
+      composed = found-composed c.args.set c.args.s.now c.requires.set_stands
+          (head_of c.args.s.now c.args.place (c.in-Header.ensures)) c.requires.pts_value;
+    }
 
 pub returns-in-Refused : goal.returns-in-Refused
 returns-in-Refused c = absurd (head-there c.args.set c.args.s.now c.requires.set_stands (c.in-Refused.ensures))

@@ -13,23 +13,61 @@ pub overflow_mul-pcs-2 : goal.overflow_mul-pcs-2
 overflow_mul-pcs-2 c = omega (arith, area-fits {a = 4 * c.args.pcs.width} {b = c.args.pcs.height} (omega arith) (omega arith))
 
 pub returns-then-not-objects_fit : goal.returns-then-not-objects_fit
-returns-then-not-objects_fit c = renders-none c.args.set c.args.s.now (scratch-short c.args.set c.args.s.now c.requires.listed c.args.scratch.now c.args.plane.now c.objects_fit.ensures c.if-not-objects_fit.true)
+returns-then-not-objects_fit c =
+    renders-none c.args.set c.args.s.now
+    (scratch-short c.args.set c.args.s.now c.requires.listed c.args.scratch.now c.args.plane.now c.objects_fit.ensures
+    c.if-not-objects_fit.true)
 
 pub returns-then-plane-pcs : goal.returns-then-plane-pcs
-returns-then-plane-pcs c = renders-none c.args.set c.args.s.now (plane-short c.args.set c.args.s.now c.requires.listed c.args.scratch.now c.args.plane.now c.objects_fit.ensures c.if-not-objects_fit.false c.requires.placed c.if-plane-pcs.true)
+returns-then-plane-pcs c =
+    renders-none c.args.set c.args.s.now
+    (plane-short c.args.set c.args.s.now c.requires.listed c.args.scratch.now c.args.plane.now c.objects_fit.ensures
+    c.if-not-objects_fit.false c.requires.placed c.if-plane-pcs.true)
 
 pub join_and_read-requires : goal.join_and_read-requires
-join_and_read-requires c = record { listed = c.requires.listed; placements_value = c.requires.placed.records; s_in_bounds = omega (arith, scratch-room c.args.set c.args.s.now c.requires.listed c.args.scratch.now c.args.plane.now c.objects_fit.ensures c.if-not-objects_fit.false) }
+join_and_read-requires c =
+    record {
+      listed = c.requires.listed;
+      placements_value = c.requires.placed.records;
+      s_in_bounds = omega (
+        arith,
+        scratch-room c.args.set c.args.s.now c.requires.listed c.args.scratch.now c.args.plane.now
+            c.objects_fit.ensures c.if-not-objects_fit.false,
+      );
+    }
 
 pub joined_total-joined-requires : goal.joined_total-joined-requires
-joined_total-joined-requires c = omega (arith, listed-total c.args.set c.args.s.now c.requires.listed, scratch-room c.args.set c.args.s.now c.requires.listed c.args.scratch.now c.args.plane.now c.objects_fit.ensures c.if-not-objects_fit.false, c.well_formed.1.1.1.1.1.1.0.0)
+joined_total-joined-requires c =
+    omega (
+      arith,
+      listed-total c.args.set c.args.s.now c.requires.listed,
+      scratch-room c.args.set c.args.s.now c.requires.listed c.args.scratch.now c.args.plane.now c.objects_fit.ensures
+          c.if-not-objects_fit.false,
+      c.well_formed.1.1.1.1.1.1.0.0,
+    )
 
 pub show-requires : goal.show-requires
-show-requires c = record { listed = c.requires.listed; opened = c.requires.opened; placed = c.requires.placed; ready = readied c.args.set c.args.s.now c.requires.listed c.args.scratch.now c.args.plane.now c.objects_fit.ensures c.if-not-objects_fit.false c.requires.placed c.if-plane-pcs.false c.join_and_read.ensures (ap outcome c.in-Accepted.is) c.join_and_read.auto.scratch c.joined_total-joined.ensures }
+show-requires c =
+    record {
+      listed = c.requires.listed;
+      opened = c.requires.opened;
+      placed = c.requires.placed;
+      ready = readied c.args.set c.args.s.now c.requires.listed c.args.scratch.now c.args.plane.now
+          c.objects_fit.ensures c.if-not-objects_fit.false c.requires.placed c.if-plane-pcs.false
+          c.join_and_read.ensures (ap outcome c.in-Accepted.is) c.join_and_read.auto.scratch
+          c.joined_total-joined.ensures;
+    }
 
 pub returns-in-Refused : goal.returns-in-Refused
-returns-in-Refused c = renders-joined c.args.set c.args.s.now (all_room c.args.set c.args.s.now c.requires.listed c.args.scratch.now c.args.plane.now c.objects_fit.ensures c.if-not-objects_fit.false c.requires.placed c.if-plane-pcs.false) (sym c.join_and_read.ensures.content ∙ ap outcome c.in-Refused.is) c.join_and_read.ensures.joined
+returns-in-Refused c =
+    renders-joined c.args.set c.args.s.now
+    (all_room c.args.set c.args.s.now c.requires.listed c.args.scratch.now c.args.plane.now c.objects_fit.ensures
+    c.if-not-objects_fit.false c.requires.placed c.if-plane-pcs.false)
+    (sym c.join_and_read.ensures.content ∙ ap outcome c.in-Refused.is) c.join_and_read.ensures.joined
 
 pub returns-in-Accepted : goal.returns-in-Accepted
-returns-in-Accepted c = renders-all c.args.set c.args.s.now (all_room c.args.set c.args.s.now c.requires.listed c.args.scratch.now c.args.plane.now c.objects_fit.ensures c.if-not-objects_fit.false c.requires.placed c.if-plane-pcs.false) (sym c.join_and_read.ensures.content ∙ ap outcome c.in-Accepted.is) c.join_and_read.ensures.joined c.show.ensures
-
+returns-in-Accepted c =
+    renders-all c.args.set c.args.s.now
+    (all_room c.args.set c.args.s.now c.requires.listed c.args.scratch.now c.args.plane.now c.objects_fit.ensures
+    c.if-not-objects_fit.false c.requires.placed c.if-plane-pcs.false)
+    (sym c.join_and_read.ensures.content ∙ ap outcome c.in-Accepted.is) c.join_and_read.ensures.joined c.show.ensures

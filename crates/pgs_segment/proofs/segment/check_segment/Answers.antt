@@ -39,7 +39,23 @@ pub returns-in-Refused : goal.returns-in-Refused
 returns-in-Refused c = let l = c.args.buf.now in refuses-as (frame_of l) (head-decides l (turned_down (header_verdict l) (header_fields l) (c.in-Refused.ensures)))
 
 pub returns-in-Refused-check_body : goal.returns-in-Refused-check_body
-returns-in-Refused-check_body c = let l = c.args.buf.now in let e = (c.in-Header.ensures) in refuses-as (frame_of l) (body-decides l (ok l e) (rw (← size_is l e) c.if-buf-size.false) ∙ turned_down (body_verdict (segment_type l) (body_at l)) (body_list (segment_type l) (body_at l)) (lent-body l (c.from_raw-kind.ensures ∙ ap type_of (kind-is l e)) (size_is l e) (c.in-Refused-check_body.ensures)))
+returns-in-Refused-check_body c =
+    let l = c.args.buf.now in
+    let e = (c.in-Header.ensures) in
+    refuses-as (frame_of l)
+    (body-decides l (ok l e) (rw (← size_is l e) c.if-buf-size.false)
+    ∙ turned_down (body_verdict (segment_type l) (body_at l)) (body_list (segment_type l) (body_at l))
+    (lent-body l (c.from_raw-kind.ensures ∙ ap type_of (kind-is l e)) (size_is l e) (c.in-Refused-check_body.ensures)))
 
 pub returns-in-List : goal.returns-in-List
-returns-in-List c = let l = c.args.buf.now in let e = (c.in-Header.ensures) in let q = lent-body l (c.from_raw-kind.ensures ∙ ap type_of (kind-is l e)) (size_is l e) (c.in-List.ensures) in gives_as (body-decides l (ok l e) (rw (← size_is l e) c.if-buf-size.false) ∙ gave (body_verdict (segment_type l) (body_at l)) (body_list (segment_type l) (body_at l)) q) (λ j. record { header = gave-value (header_verdict l) (header_fields l) e j; list = gave-value (body_verdict (segment_type l) (body_at l)) (body_list (segment_type l) (body_at l)) q j })
+returns-in-List c =
+    let l = c.args.buf.now in
+    let e = (c.in-Header.ensures) in
+    let q = lent-body l (c.from_raw-kind.ensures ∙ ap type_of (kind-is l e)) (size_is l e) (c.in-List.ensures) in
+    gives_as
+    (body-decides l (ok l e) (rw (← size_is l e) c.if-buf-size.false)
+    ∙ gave (body_verdict (segment_type l) (body_at l)) (body_list (segment_type l) (body_at l)) q)
+    (λ j. record {
+      header = gave-value (header_verdict l) (header_fields l) e j;
+      list = gave-value (body_verdict (segment_type l) (body_at l)) (body_list (segment_type l) (body_at l)) q j;
+    })

@@ -32,7 +32,9 @@ module _ (s : List ℕ) (at : ℕ) (f : Frame) (framed : gives f ≡ outcome_of 
 on : (c : After-opened_by-n)
     → Counting c.args.s.now c.in-On.after (c.loop-at.at + (13 + c.in-Framed.frame.header.segment_size)) (c.loop-at.n + c.opened_by-n.result)
 on c =
-    counts-on c.args.s.now c.loop-at.invariant (ok c.args.s.now c.loop-at.at _ (frame_at c.args.s.now c.loop-at.at c.in-Framed.ensures)) (head c.args.s.now c.loop-at.at _ (frame_at c.args.s.now c.loop-at.at c.in-Framed.ensures)) c.from_raw-kind.ensures
+    counts-on c.args.s.now c.loop-at.invariant
+    (ok c.args.s.now c.loop-at.at _ (frame_at c.args.s.now c.loop-at.at c.in-Framed.ensures))
+    (head c.args.s.now c.loop-at.at _ (frame_at c.args.s.now c.loop-at.at c.in-Framed.ensures)) c.from_raw-kind.ensures
     (c.in-On.ensures) c.opened_by-n.ensures
 
 pub loop-at-init : goal.loop-at-init
@@ -61,7 +63,10 @@ returns-in-Refused-group_segment c =
     ∙ ap (λ (l : List ℕ). outcome_of (and_then (stream_verdict l) (refused k)) 0) (to_end next s)
     ∙ refusal-alone (stream_verdict (drop next s)) k 0 (set_count s)
     ∙ ap (λ (v : Verdict). outcome_of v (set_count s))
-    (counted-refusal s c.loop-at.invariant (ok c.args.s.now c.loop-at.at _ (frame_at c.args.s.now c.loop-at.at c.in-Framed.ensures)) (head c.args.s.now c.loop-at.at _ (frame_at c.args.s.now c.loop-at.at c.in-Framed.ensures)) c.from_raw-kind.ensures (c.in-Refused-group_segment.ensures))
+    (counted-refusal s c.loop-at.invariant
+    (ok c.args.s.now c.loop-at.at _ (frame_at c.args.s.now c.loop-at.at c.in-Framed.ensures))
+    (head c.args.s.now c.loop-at.at _ (frame_at c.args.s.now c.loop-at.at c.in-Framed.ensures)) c.from_raw-kind.ensures
+    (c.in-Refused-group_segment.ensures))
 
 pub overflow_add-n : goal.overflow_add-n
 overflow_add-n c = omega (arith, (on (goal.at.overflow_add-n c).After-opened_by-n).few, (on (goal.at.overflow_add-n c).After-opened_by-n).inside)
@@ -83,4 +88,3 @@ slice_bounds-refused_before-count c = within c.args.s.now c.loop-at.at _ (frame_
 
 pub slice_bounds-refused_before-start : goal.slice_bounds-refused_before-start
 slice_bounds-refused_before-start c = omega (arith, within c.args.s.now c.loop-at.at _ (frame_at c.args.s.now c.loop-at.at c.in-Framed.ensures))
-

@@ -6,13 +6,29 @@ use native.Mathlib.Omega.{arith}
 use Rattle.pgs_set.proofs.set.parse_display_sets.Goals as goal
 
 pub returns-then-sets-n : goal.returns-then-sets-n
-returns-then-sets-n c = let s = c.args.s.now in let e = c.in-Sets.ensures in delivers-short (gave (sets_verdict s) (set_count s) e) (omega (arith, set-rows s, gave-value (sets_verdict s) (set_count s) e))
+returns-then-sets-n c =
+    let s = c.args.s.now in
+    let e = c.in-Sets.ensures in
+    delivers-short (gave (sets_verdict s) (set_count s) e)
+    (omega (arith, set-rows s, gave-value (sets_verdict s) (set_count s) e))
 
 pub fill_sets-requires : goal.fill_sets-requires
-fill_sets-requires c = let s = c.args.s.now in let e = c.in-Sets.ensures in record { s_value = gave (sets_verdict s) (set_count s) e; n_value = gave-value (sets_verdict s) (set_count s) e; n_in_bounds = omega arith }
+fill_sets-requires c =
+    let s = c.args.s.now in
+    let e = c.in-Sets.ensures in
+    record {
+      s_value = gave (sets_verdict s) (set_count s) e;
+      n_value = gave-value (sets_verdict s) (set_count s) e;
+      n_in_bounds = omega arith;
+    }
 
 pub returns-in-Refused : goal.returns-in-Refused
 returns-in-Refused c = let s = c.args.s.now in delivers-refusal (turned_down (sets_verdict s) (set_count s) (c.in-Refused.ensures))
 
 pub returns-else-sets-n : goal.returns-else-sets-n
-returns-else-sets-n c = let s = c.args.s.now in let e = c.in-Sets.ensures in delivers-all (gave (sets_verdict s) (set_count s) e) (omega (arith, set-rows s, gave-value (sets_verdict s) (set_count s) e, c.if-sets-n.false)) (gave-value (sets_verdict s) (set_count s) e) c.fill_sets.ensures
+returns-else-sets-n c =
+    let s = c.args.s.now in
+    let e = c.in-Sets.ensures in
+    delivers-all (gave (sets_verdict s) (set_count s) e)
+    (omega (arith, set-rows s, gave-value (sets_verdict s) (set_count s) e, c.if-sets-n.false))
+    (gave-value (sets_verdict s) (set_count s) e) c.fill_sets.ensures

@@ -6,7 +6,11 @@ use mathlib.Core.Path.{sym, ap, ◌∙◌}
 use Rattle.pgs_set.proofs.set.refused_before.Goals as goal
 
 pub returns-in-Refused : goal.returns-in-Refused
-returns-in-Refused c = let l = c.args.rest.now in refuses-as 0 (ap (λ (v : Verdict). and_then v (refused (number_of c.args.why))) (turned_down (stream_verdict l) (segment_count l) (c.in-Refused.ensures)))
+returns-in-Refused c =
+    let l = c.args.rest.now in
+    refuses-as 0
+    (ap (λ (v : Verdict). and_then v (refused (number_of c.args.why)))
+    (turned_down (stream_verdict l) (segment_count l) (c.in-Refused.ensures)))
 
 pub returns-in-Segments : goal.returns-in-Segments
 returns-in-Segments c = let l = c.args.rest.now in refuses-as 0 (ap (λ (v : Verdict). and_then v (refused (number_of c.args.why))) (gave (stream_verdict l) (segment_count l) (c.in-Segments.ensures)))

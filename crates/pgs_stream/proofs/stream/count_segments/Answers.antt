@@ -34,7 +34,13 @@ pub slice_bounds-check_segment-start : goal.slice_bounds-check_segment-start
 slice_bounds-check_segment-start c = omega (arith, c.loop-at.invariant.inside)
 
 pub returns-in-Refused : goal.returns-in-Refused
-returns-in-Refused c = let s = c.args.s.now in let l = drop c.loop-at.at s in refuses-as (segment_count s) (counted-refusal s c.loop-at.invariant c.loop-at-test.true (step-refused l (turned_down (segment_verdict l) (frame_of l) (frame_at c.args.s.now c.loop-at.at (c.in-Refused.ensures)))))
+returns-in-Refused c =
+    let s = c.args.s.now in
+    let l = drop c.loop-at.at s in
+    refuses-as (segment_count s)
+    (counted-refusal s c.loop-at.invariant c.loop-at-test.true
+    (step-refused l
+    (turned_down (segment_verdict l) (frame_of l) (frame_at c.args.s.now c.loop-at.at (c.in-Refused.ensures)))))
 
 pub returns-then-used-eq0 : goal.returns-then-used-eq0
 returns-then-used-eq0 c = absurd (omega (arith, c.if-used-eq0.true))

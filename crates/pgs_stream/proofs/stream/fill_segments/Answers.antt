@@ -36,7 +36,11 @@ pub overflow_add-at-in-Header : goal.overflow_add-at-in-Header
 overflow_add-at-in-Header c = omega (arith, (its-size c.args.s.now c.loop-i.at (c.in-Header.ensures)), next-within _ _ c.loop-i.invariant c.loop-i-test.true)
 
 pub loop-i-preserved : goal.loop-i-preserved
-loop-i-preserved c = rw (its-size c.args.s.now c.loop-i.at (c.in-Header.ensures)) (stores-on c.args.s.now c.args.n c.loop-i.invariant c.loop-i-test.true c.requires.n_in_bounds c.segment_record.result (c.segment_record.ensures ∙ ap (head_row c.loop-i.at) (head_of c.args.s.now c.loop-i.at (c.in-Header.ensures))))
+loop-i-preserved c =
+    rw (its-size c.args.s.now c.loop-i.at (c.in-Header.ensures))
+    (stores-on c.args.s.now c.args.n c.loop-i.invariant c.loop-i-test.true c.requires.n_in_bounds
+    c.segment_record.result
+    (c.segment_record.ensures ∙ ap (head_row c.loop-i.at) (head_of c.args.s.now c.loop-i.at (c.in-Header.ensures))))
 
 pub returns : goal.returns
 returns c = stored-segments c.args.s.now c.args.n c.loop-i.invariant c.loop-i-test.false

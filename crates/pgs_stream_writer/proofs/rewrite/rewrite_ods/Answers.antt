@@ -13,7 +13,10 @@ use native.Mathlib.Omega.{arith}
 use Rattle.pgs_stream_writer.proofs.rewrite.rewrite_ods.Goals as goal
 
 -- the data begins within the body
-start-within : (b : List ℕ) → ods_verdict b ≡ accepted → {x : Ods × BodyList} → ◌≡◌ {A = Outcome (Ods × BodyList)} (gives x) (outcome_of (ods_verdict b) (ods_of b, ods_list b)) → x.1.start ≤ length b
+start-within : (b : List ℕ)
+    → ods_verdict b ≡ accepted
+    → {x : Ods × BodyList}
+    → ◌≡◌ {A = Outcome (Ods × BodyList)} (gives x) (outcome_of (ods_verdict b) (ods_of b, ods_list b)) → x.1.start ≤ length b
 start-within b v e =
     omega (arith, has-dimensions b v, ap (λ (x : Ods × BodyList). x.1.start) (gave-value (ods_verdict b) (ods_of b, ods_list b) e))
 

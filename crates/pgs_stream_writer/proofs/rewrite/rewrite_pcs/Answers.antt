@@ -33,7 +33,11 @@ returns-in-Placements c =
     let b = c.args.body.now in
     let r = rw (ap pcs_outcome c.in-Placements.is) at c.parse.ensures in
     same_write
-    (pcs-again b c.args.pts c.args.dts (take c.in-Placements.n c.parse.new.placements) (ap (λ (x : Pcs × ℕ). x.0) (delivered-value r))
-    (read_again placement_row (placements_of b) (placement-list b) r placement_from placement-back (ap (λ (x : Pcs × ℕ). x.1) (delivered-value r) ∙ placement-count b)))
-    (rw (marked c.args.pts c.args.dts c.in-Placements.pcs (placements_of b) (front placement_row (placements_of b) (placement-list b) r (ap (λ (x : Pcs × ℕ). x.1) (delivered-value r) ∙ placement-count b))) at
-    c.encode_pcs.ensures)
+    (pcs-again b c.args.pts c.args.dts (take c.in-Placements.n c.parse.new.placements)
+    (ap (λ (x : Pcs × ℕ). x.0) (delivered-value r))
+    (read_again placement_row (placements_of b) (placement-list b) r placement_from placement-back
+    (ap (λ (x : Pcs × ℕ). x.1) (delivered-value r) ∙ placement-count b)))
+    (rw
+    (marked c.args.pts c.args.dts c.in-Placements.pcs (placements_of b)
+    (front placement_row (placements_of b) (placement-list b) r
+    (ap (λ (x : Pcs × ℕ). x.1) (delivered-value r) ∙ placement-count b))) at c.encode_pcs.ensures)

@@ -37,13 +37,39 @@ pub rewrite_segment-answer-requires : goal.rewrite_segment-answer-requires
 rewrite_segment-answer-requires c = next-lent c.args.s.now c.args.n c.args.out.now c.loop-i.invariant c.loop-i-test.true
 
 pub overflow_add-at : goal.overflow_add-at
-overflow_add-at c = omega (arith, c.well_formed.1.1.0.0, c.loop-i.invariant.same, c.bytes_written-at.ensures, ends-within c.args.s.now c.args.n c.args.out.now c.loop-i.invariant c.loop-i-test.true c.rewrite_segment-answer.result (lent-write c.args.s.now c.loop-i.out c.loop-i.from c.loop-i.at c.rewrite_segment-answer.ensures))
+overflow_add-at c =
+    omega (
+      arith,
+      c.well_formed.1.1.0.0,
+      c.loop-i.invariant.same,
+      c.bytes_written-at.ensures,
+      ends-within c.args.s.now c.args.n c.args.out.now c.loop-i.invariant c.loop-i-test.true
+          c.rewrite_segment-answer.result
+          (lent-write c.args.s.now c.loop-i.out c.loop-i.from c.loop-i.at c.rewrite_segment-answer.ensures),
+    )
 
 pub overflow_add-accepted : goal.overflow_add-accepted
-overflow_add-accepted c = omega (arith, c.ranges.n.fits, c.loop-i-test.true, c.loop-i.invariant.few, c.writes_accepted-accepted.ensures, counts-one c.args.s.now c.args.n c.args.out.now c.loop-i.invariant c.loop-i-test.true c.rewrite_segment-answer.result (lent-write c.args.s.now c.loop-i.out c.loop-i.from c.loop-i.at c.rewrite_segment-answer.ensures))
+overflow_add-accepted c =
+    omega (
+      arith,
+      c.ranges.n.fits,
+      c.loop-i-test.true,
+      c.loop-i.invariant.few,
+      c.writes_accepted-accepted.ensures,
+      counts-one c.args.s.now c.args.n c.args.out.now c.loop-i.invariant c.loop-i-test.true
+          c.rewrite_segment-answer.result
+          (lent-write c.args.s.now c.loop-i.out c.loop-i.from c.loop-i.at c.rewrite_segment-answer.ensures),
+    )
 
 pub overflow_add-from : goal.overflow_add-from
-overflow_add-from c = omega (arith, c.well_formed.0.0, c.used_by-used.ensures, ap used_by (to_end c.loop-i.from c.args.s.now), next-within c.args.s.now c.args.n c.args.out.now c.loop-i.invariant c.loop-i-test.true)
+overflow_add-from c =
+    omega (
+      arith,
+      c.well_formed.0.0,
+      c.used_by-used.ensures,
+      ap used_by (to_end c.loop-i.from c.args.s.now),
+      next-within c.args.s.now c.args.n c.args.out.now c.loop-i.invariant c.loop-i-test.true,
+    )
 
 pub loop-i-preserved : goal.loop-i-preserved
 loop-i-preserved c =
@@ -51,4 +77,6 @@ loop-i-preserved c =
     let e = put_back c.loop-i.out c.rewrite_segment-answer.new.out c.loop-i.at in
     let u = c.used_by-used.ensures ∙ ap used_by (to_end c.loop-i.from s) in
     rw (e, u, c.bytes_written-at.ensures, c.writes_accepted-accepted.ensures)
-    (performs-on c.args.s.now c.args.n c.args.out.now c.loop-i.invariant c.loop-i-test.true c.rewrite_segment-answer.result (lent-write c.args.s.now c.loop-i.out c.loop-i.from c.loop-i.at c.rewrite_segment-answer.ensures))
+    (performs-on c.args.s.now c.args.n c.args.out.now c.loop-i.invariant c.loop-i-test.true
+    c.rewrite_segment-answer.result
+    (lent-write c.args.s.now c.loop-i.out c.loop-i.from c.loop-i.at c.rewrite_segment-answer.ensures))

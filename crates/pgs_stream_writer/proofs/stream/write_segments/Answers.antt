@@ -9,19 +9,35 @@ pub write_first-requires : goal.write_first-requires
 write_first-requires c = let s = c.args.s.now in omega (arith, c.if-writes-n.true, gave-value (stream_verdict s) (segment_count s) (c.in-Segments.ensures))
 
 pub returns-then-writes-n : goal.returns-then-writes-n
-returns-then-writes-n c = let w = (let s = c.args.s.now in
-    accepted-writes c.args.writes s c.args.out.now c.args.writes (gave (stream_verdict s) (segment_count s) (c.in-Segments.ensures)) refl (c.write_first.ensures.result_value, c.write_first.ensures.out_after)) in record { result_value = w.0; out_after = w.1 }
+returns-then-writes-n c =
+    let s = c.args.s.now in
+    let first = c.write_first.ensures in
+    let w =
+    accepted-writes c.args.writes s c.args.out.now c.args.writes
+    (gave (stream_verdict s) (segment_count s) c.in-Segments.ensures) refl (first.result_value, first.out_after) in
+    record { result_value = w.0; out_after = w.1 }
 
 pub write_first-requires-in-Segments : goal.write_first-requires-in-Segments
-write_first-requires-in-Segments c = let s = c.args.s.now in omega (arith, gave-value (stream_verdict s) (segment_count s) (c.in-Segments.ensures))
+write_first-requires-in-Segments c =
+    let s = c.args.s.now in
+    omega (arith, gave-value (stream_verdict s) (segment_count s) c.in-Segments.ensures)
 
 pub returns-in-Refused : goal.returns-in-Refused
-returns-in-Refused c = let w = (let s = c.args.s.now in
-    refused-writes c.args.writes s c.args.out.now (turned_down (stream_verdict s) (segment_count s) (c.in-Refused.ensures))) in record { result_value = w.0; out_after = w.1 }
+returns-in-Refused c =
+    let s = c.args.s.now in
+    let w =
+    refused-writes c.args.writes s c.args.out.now
+    (turned_down (stream_verdict s) (segment_count s) c.in-Refused.ensures) in
+    record { result_value = w.0; out_after = w.1 }
 
 pub returns-else-writes-n : goal.returns-else-writes-n
-returns-else-writes-n c = let w = (let s = c.args.s.now in
-    let e = (c.in-Segments.ensures) in
+returns-else-writes-n c =
+    let s = c.args.s.now in
+    let e = c.in-Segments.ensures in
+    let first = c.write_first-in-Segments.ensures in
+    let count = gave-value (stream_verdict s) (segment_count s) e in
+    let w =
     accepted-writes c.args.writes s c.args.out.now c.in-Segments.n (gave (stream_verdict s) (segment_count s) e)
-    (all-writes c.args.writes s c.args.out.now (gave-value (stream_verdict s) (segment_count s) e) (omega (arith, c.if-writes-n.false)))
-    (c.write_first-in-Segments.ensures.result_value, c.write_first-in-Segments.ensures.out_after)) in record { result_value = w.0; out_after = w.1 }
+    (all-writes c.args.writes s c.args.out.now count (omega (arith, c.if-writes-n.false)))
+    (first.result_value, first.out_after) in
+    record { result_value = w.0; out_after = w.1 }

@@ -29,7 +29,10 @@ pub overflow_add-at : goal.overflow_add-at
 overflow_add-at c = omega (arith, next_fits _ _ _ _ c.loop-i.invariant c.loop-i-test.true)
 
 pub loop-i-preserved : goal.loop-i-preserved
-loop-i-preserved c = turn row window_size _ _ c.loop-i.invariant c.loop-i-test.true c.«record».result (c.«record».ensures ∙ ap window_row (c.read.ensures ∙ ap window_of (to_end c.loop-i.at c.args.body.now))) c.requires.n_in_bounds
+loop-i-preserved c =
+    turn row window_size _ _ c.loop-i.invariant c.loop-i-test.true c.«record».result
+    (c.«record».ensures ∙ ap window_row (c.read.ensures ∙ ap window_of (to_end c.loop-i.at c.args.body.now)))
+    c.requires.n_in_bounds
 
 pub returns : goal.returns
 returns c = stored-rows window_row window_of window_size _ _ _ c.loop-i.invariant c.loop-i-test.false

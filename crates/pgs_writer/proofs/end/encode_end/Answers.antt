@@ -8,7 +8,15 @@ use native.Mathlib.Omega.{arith}
 use Rattle.pgs_writer.proofs.end.encode_end.Goals as goal
 
 pub returns-then-out-lt13 : goal.returns-then-out-lt13
-returns-then-out-lt13 c = write-34 (end_segment c.args.pts c.args.dts) c.args.out.now (writable-body (end_segment c.args.pts c.args.dts) c.ranges.pts.fits c.ranges.dts.fits (omega arith) (omega arith) refl) (omega (arith, encode-length (end_segment c.args.pts c.args.dts), c.if-out-lt13.true))
+returns-then-out-lt13 c =
+    write-34 (end_segment c.args.pts c.args.dts) c.args.out.now
+    (writable-body (end_segment c.args.pts c.args.dts) c.ranges.pts.fits c.ranges.dts.fits (omega arith) (omega arith)
+    refl) (omega (arith, encode-length (end_segment c.args.pts c.args.dts), c.if-out-lt13.true))
 
 pub returns : goal.returns
-returns c = write-all (end_segment c.args.pts c.args.dts) c.args.out.now (writable-body (end_segment c.args.pts c.args.dts) c.ranges.pts.fits c.ranges.dts.fits (omega arith) (omega arith) refl) (omega (arith, encode-length (end_segment c.args.pts c.args.dts), c.if-out-lt13.false)) (omega (arith, encode-length (end_segment c.args.pts c.args.dts))) (encoded (end_segment c.args.pts c.args.dts) c.args.out.now refl c.put_head.ensures refl)
+returns c =
+    write-all (end_segment c.args.pts c.args.dts) c.args.out.now
+    (writable-body (end_segment c.args.pts c.args.dts) c.ranges.pts.fits c.ranges.dts.fits (omega arith) (omega arith)
+    refl) (omega (arith, encode-length (end_segment c.args.pts c.args.dts), c.if-out-lt13.false))
+    (omega (arith, encode-length (end_segment c.args.pts c.args.dts)))
+    (encoded (end_segment c.args.pts c.args.dts) c.args.out.now refl c.put_head.ensures refl)

@@ -27,10 +27,29 @@ flag-fits : (c : Start) → Fits w8 c.args.o.last_in_sequence_flag
 flag-fits c = search rules
 
 pub returns-then-o-gt16777215 : goal.returns-then-o-gt16777215
-returns-then-o-gt16777215 c = sym (ods-long c.args.o (id-fits (goal.at.returns-then-o-gt16777215 c).Start).fits (version-fits (goal.at.returns-then-o-gt16777215 c).Start).fits (flag-fits (goal.at.returns-then-o-gt16777215 c).Start).fits (omega arith))
+returns-then-o-gt16777215 c =
+    sym
+    (ods-long c.args.o (id-fits (goal.at.returns-then-o-gt16777215 c) .Start) .fits
+    (version-fits (goal.at.returns-then-o-gt16777215 c) .Start) .fits
+    (flag-fits (goal.at.returns-then-o-gt16777215 c) .Start) .fits (omega arith))
 
 pub returns-in-Absent : goal.returns-in-Absent
-returns-in-Absent c = let o = c.args.o in pick-self (not c.is_first-first.result) ∙ (ap (λ (t : Bool). pick (not t) true false) (c.is_first-first.ensures ∙ ap is_first c.from_raw.ensures) ∙ sym (ods-shape o (id-fits (goal.at.returns-in-Absent c).Start).fits (version-fits (goal.at.returns-in-Absent c).Start).fits (flag-fits (goal.at.returns-in-Absent c).Start).fits c.if-o-gt16777215.false Absent c.in-Absent.is))
+returns-in-Absent c =
+    let o = c.args.o in
+    pick-self (not c.is_first-first.result)
+    ∙ (ap (λ (t : Bool). pick (not t) true false) (c.is_first-first.ensures ∙ ap is_first c.from_raw.ensures)
+    ∙ sym
+    (ods-shape o (id-fits (goal.at.returns-in-Absent c) .Start) .fits
+    (version-fits (goal.at.returns-in-Absent c) .Start) .fits (flag-fits (goal.at.returns-in-Absent c) .Start) .fits
+    c.if-o-gt16777215.false Absent c.in-Absent.is))
 
 pub returns-in-Present : goal.returns-in-Present
-returns-in-Present c = let o = c.args.o in c.dimensions_fit.ensures ∙ (ap (λ (t : Bool). pick t (all_fit (dimension_fields (Present c.in-Present.width c.in-Present.height))) false) (c.is_first-first.ensures ∙ ap is_first c.from_raw.ensures) ∙ sym (ods-shape o (id-fits (goal.at.returns-in-Present c).Start).fits (version-fits (goal.at.returns-in-Present c).Start).fits (flag-fits (goal.at.returns-in-Present c).Start).fits c.if-o-gt16777215.false (Present c.in-Present.width c.in-Present.height) c.in-Present.is))
+returns-in-Present c =
+    let o = c.args.o in
+    c.dimensions_fit.ensures
+    ∙ (ap (λ (t : Bool). pick t (all_fit (dimension_fields (Present c.in-Present.width c.in-Present.height))) false)
+    (c.is_first-first.ensures ∙ ap is_first c.from_raw.ensures)
+    ∙ sym
+    (ods-shape o (id-fits (goal.at.returns-in-Present c) .Start) .fits
+    (version-fits (goal.at.returns-in-Present c) .Start) .fits (flag-fits (goal.at.returns-in-Present c) .Start) .fits
+    c.if-o-gt16777215.false (Present c.in-Present.width c.in-Present.height) c.in-Present.is))

@@ -11,4 +11,10 @@ pub returns-then-out-at : goal.returns-then-out-at
 returns-then-out-at c = sets-out c.args.out.now c.args.at (bytes_of 3 c.args.n) c.if-out-at.true
 
 pub returns : goal.returns
-returns c = (c.put_byte-3.ensures ∙ then-sets c.args.out.now c.args.at ((c.args.n / 256 / 256 % 256) ∷ (c.args.n / 256 % 256) ∷ []) ((c.args.n % 256) ∷ []) ((c.put_byte-2.ensures ∙ then-sets c.args.out.now c.args.at ((c.args.n / 256 / 256 % 256) ∷ []) ((c.args.n / 256 % 256) ∷ []) c.put_byte.ensures refl)) refl)
+returns c =
+    (c.put_byte-3.ensures
+    ∙ then-sets c.args.out.now c.args.at ((c.args.n / 256 / 256 % 256) ∷ (c.args.n / 256 % 256) ∷ [])
+    ((c.args.n % 256) ∷ [])
+    ((c.put_byte-2.ensures
+    ∙ then-sets c.args.out.now c.args.at ((c.args.n / 256 / 256 % 256) ∷ []) ((c.args.n / 256 % 256) ∷ [])
+    c.put_byte.ensures refl)) refl)

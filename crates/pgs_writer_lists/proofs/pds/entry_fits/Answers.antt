@@ -15,4 +15,11 @@ cell : (c : Start) (k : ℕ) → Fits w8 (get_or c.args.e k 0)
 cell c k = search rules
 
 pub returns : goal.returns
-returns c = id-fits (get_or c.args.e 0 0) _ (simp (lt-ltb (get_or c.args.e 1 0) 256 (cell (goal.at.returns c).Start 1).fits, lt-ltb (get_or c.args.e 2 0) 256 (cell (goal.at.returns c).Start 2).fits, lt-ltb (get_or c.args.e 3 0) 256 (cell (goal.at.returns c).Start 3).fits, lt-ltb (get_or c.args.e 4 0) 256 (cell (goal.at.returns c).Start 4).fits))
+returns c =
+    id-fits (get_or c.args.e 0 0) _
+    (simp (
+      lt-ltb (get_or c.args.e 1 0) 256 (cell (goal.at.returns c) .Start 1) .fits,
+      lt-ltb (get_or c.args.e 2 0) 256 (cell (goal.at.returns c) .Start 2) .fits,
+      lt-ltb (get_or c.args.e 3 0) 256 (cell (goal.at.returns c) .Start 3) .fits,
+      lt-ltb (get_or c.args.e 4 0) 256 (cell (goal.at.returns c) .Start 4) .fits,
+    ))

@@ -19,13 +19,29 @@ pub bounds-entries-i : goal.bounds-entries-i
 bounds-entries-i c = c.loop-i-test.true
 
 pub put_entry-requires : goal.put_entry-requires
-put_entry-requires c = let rows = c.args.entries.now in omega (arith, room entry_from rows entry_fields c.args.out.now c.args.first c.loop-i.invariant c.loop-i-test.true c.requires, length-written (entry_fields (entry_from (get_or rows c.loop-i.i []))))
+put_entry-requires c =
+    let rows = c.args.entries.now in
+    omega (
+      arith,
+      room entry_from rows entry_fields c.args.out.now c.args.first c.loop-i.invariant c.loop-i-test.true c.requires,
+      length-written (entry_fields (entry_from (get_or rows c.loop-i.i []))),
+    )
 
 pub overflow_add-at : goal.overflow_add-at
-overflow_add-at c = let rows = c.args.entries.now in omega (arith, room entry_from rows entry_fields c.args.out.now c.args.first c.loop-i.invariant c.loop-i-test.true c.requires, length-written (entry_fields (entry_from (get_or rows c.loop-i.i []))), c.loop-i.invariant.same)
+overflow_add-at c =
+    let rows = c.args.entries.now in
+    omega (
+      arith,
+      room entry_from rows entry_fields c.args.out.now c.args.first c.loop-i.invariant c.loop-i-test.true c.requires,
+      length-written (entry_fields (entry_from (get_or rows c.loop-i.i []))),
+      c.loop-i.invariant.same,
+    )
 
 pub loop-i-preserved : goal.loop-i-preserved
-loop-i-preserved c = let rows = c.args.entries.now in stores entry_from rows entry_fields c.args.out.now c.args.first c.loop-i.invariant c.loop-i-test.true (sym (length-written (entry_fields (entry_from (get_or rows c.loop-i.i []))))) c.put_entry.ensures
+loop-i-preserved c =
+    let rows = c.args.entries.now in
+    stores entry_from rows entry_fields c.args.out.now c.args.first c.loop-i.invariant c.loop-i-test.true
+    (sym (length-written (entry_fields (entry_from (get_or rows c.loop-i.i []))))) c.put_entry.ensures
 
 pub returns : goal.returns
 returns c = stored entry_from c.args.entries.now entry_fields c.args.out.now c.args.first c.loop-i.invariant c.loop-i-test.false

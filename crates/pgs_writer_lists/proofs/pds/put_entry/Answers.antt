@@ -7,4 +7,13 @@ use mathlib.Core.Path.{refl}
 use Rattle.pgs_writer_lists.proofs.pds.put_entry.Goals as goal
 
 pub returns : goal.returns
-returns c = (wrote c.args.out.now c.args.at ((1, (get_or c.args.e 0 0)) ∷ (1, (get_or c.args.e 1 0)) ∷ (1, (get_or c.args.e 2 0)) ∷ (1, (get_or c.args.e 3 0)) ∷ []) 1 (get_or c.args.e 4 0) (wrote c.args.out.now c.args.at ((1, (get_or c.args.e 0 0)) ∷ (1, (get_or c.args.e 1 0)) ∷ (1, (get_or c.args.e 2 0)) ∷ []) 1 (get_or c.args.e 3 0) (wrote c.args.out.now c.args.at ((1, (get_or c.args.e 0 0)) ∷ (1, (get_or c.args.e 1 0)) ∷ []) 1 (get_or c.args.e 2 0) (wrote c.args.out.now c.args.at ((1, (get_or c.args.e 0 0)) ∷ []) 1 (get_or c.args.e 1 0) c.put_u8.ensures refl c.put_u8-2.ensures) refl c.put_u8-3.ensures) refl c.put_u8-4.ensures) refl c.put_u8-5.ensures)
+returns c =
+    (wrote c.args.out.now c.args.at
+    ((1, (get_or c.args.e 0 0)) ∷ (1, (get_or c.args.e 1 0)) ∷ (1, (get_or c.args.e 2 0)) ∷ (1, (get_or c.args.e 3 0))
+    ∷ []) 1 (get_or c.args.e 4 0)
+    (wrote c.args.out.now c.args.at
+    ((1, (get_or c.args.e 0 0)) ∷ (1, (get_or c.args.e 1 0)) ∷ (1, (get_or c.args.e 2 0)) ∷ []) 1 (get_or c.args.e 3 0)
+    (wrote c.args.out.now c.args.at ((1, (get_or c.args.e 0 0)) ∷ (1, (get_or c.args.e 1 0)) ∷ []) 1
+    (get_or c.args.e 2 0)
+    (wrote c.args.out.now c.args.at ((1, (get_or c.args.e 0 0)) ∷ []) 1 (get_or c.args.e 1 0) c.put_u8.ensures refl
+    c.put_u8-2.ensures) refl c.put_u8-3.ensures) refl c.put_u8-4.ensures) refl c.put_u8-5.ensures)

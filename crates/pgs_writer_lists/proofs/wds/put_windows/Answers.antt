@@ -23,13 +23,41 @@ pub bounds-windows-i : goal.bounds-windows-i
 bounds-windows-i c = c.loop-i-test.true
 
 pub put_window-requires : goal.put_window-requires
-put_window-requires c = let rows = c.args.windows.now in let w = get_or rows c.loop-i.i [] in record { at_in_bounds = omega (arith, room window_from rows window_fields c.args.out.now c.args.first c.loop-i.invariant c.loop-i-test.true c.requires.windows_in_bounds, length-written (window_fields (window_from w))); w_bound = omega (arith, ltb-true (get_or w 0 0) 256 (first_fits (ltb (get_or w 0 0) 256) _ (each_at window_from (λ w. all_fit (window_fields w)) rows c.loop-i.i c.requires.windows_value c.loop-i-test.true))) }
+put_window-requires c =
+    let rows = c.args.windows.now in
+    let w = get_or rows c.loop-i.i [] in
+    record {
+      at_in_bounds = omega (
+        arith,
+        room window_from rows window_fields c.args.out.now c.args.first c.loop-i.invariant c.loop-i-test.true
+            c.requires.windows_in_bounds,
+        length-written (window_fields (window_from w)),
+      );
+      w_bound = omega (
+        arith,
+        ltb-true (get_or w 0 0) 256
+            (first_fits (ltb (get_or w 0 0) 256) _
+            (each_at window_from (λ w. all_fit (window_fields w)) rows c.loop-i.i c.requires.windows_value
+            c.loop-i-test.true)),
+      );
+    }
 
 pub overflow_add-at : goal.overflow_add-at
-overflow_add-at c = let rows = c.args.windows.now in omega (arith, room window_from rows window_fields c.args.out.now c.args.first c.loop-i.invariant c.loop-i-test.true c.requires.windows_in_bounds, length-written (window_fields (window_from (get_or rows c.loop-i.i []))), c.loop-i.invariant.same)
+overflow_add-at c =
+    let rows = c.args.windows.now in
+    omega (
+      arith,
+      room window_from rows window_fields c.args.out.now c.args.first c.loop-i.invariant c.loop-i-test.true
+          c.requires.windows_in_bounds,
+      length-written (window_fields (window_from (get_or rows c.loop-i.i []))),
+      c.loop-i.invariant.same,
+    )
 
 pub loop-i-preserved : goal.loop-i-preserved
-loop-i-preserved c = let rows = c.args.windows.now in stores window_from rows window_fields c.args.out.now c.args.first c.loop-i.invariant c.loop-i-test.true (sym (length-written (window_fields (window_from (get_or rows c.loop-i.i []))))) c.put_window.ensures
+loop-i-preserved c =
+    let rows = c.args.windows.now in
+    stores window_from rows window_fields c.args.out.now c.args.first c.loop-i.invariant c.loop-i-test.true
+    (sym (length-written (window_fields (window_from (get_or rows c.loop-i.i []))))) c.put_window.ensures
 
 pub returns : goal.returns
 returns c = stored window_from c.args.windows.now window_fields c.args.out.now c.args.first c.loop-i.invariant c.loop-i-test.false

@@ -15,4 +15,11 @@ cell : (c : Start) (k : ℕ) → Fits w16 (get_or c.args.w k 0)
 cell c k = search rules
 
 pub returns : goal.returns
-returns c = id-fits (get_or c.args.w 0 0) _ (simp (lt-ltb (get_or c.args.w 1 0) 65536 (cell (goal.at.returns c).Start 1).fits, lt-ltb (get_or c.args.w 2 0) 65536 (cell (goal.at.returns c).Start 2).fits, lt-ltb (get_or c.args.w 3 0) 65536 (cell (goal.at.returns c).Start 3).fits, lt-ltb (get_or c.args.w 4 0) 65536 (cell (goal.at.returns c).Start 4).fits))
+returns c =
+    id-fits (get_or c.args.w 0 0) _
+    (simp (
+      lt-ltb (get_or c.args.w 1 0) 65536 (cell (goal.at.returns c) .Start 1) .fits,
+      lt-ltb (get_or c.args.w 2 0) 65536 (cell (goal.at.returns c) .Start 2) .fits,
+      lt-ltb (get_or c.args.w 3 0) 65536 (cell (goal.at.returns c) .Start 3) .fits,
+      lt-ltb (get_or c.args.w 4 0) 65536 (cell (goal.at.returns c) .Start 4) .fits,
+    ))

@@ -16,7 +16,10 @@ numbers : (c : Start) → PcsFits c.args.pcs
 numbers c = search rules
 
 pub returns-then-n-gt255 : goal.returns-then-n-gt255
-returns-then-n-gt255 c = write-35 (pcs_segment c.args.pts c.args.dts c.args.pcs c.args.placements.now) c.args.out.now (pcs-many c.args.pts c.args.dts c.args.pcs c.args.placements.now (numbers (goal.at.returns-then-n-gt255 c).Start) (omega arith))
+returns-then-n-gt255 c =
+    write-35 (pcs_segment c.args.pts c.args.dts c.args.pcs c.args.placements.now) c.args.out.now
+    (pcs-many c.args.pts c.args.dts c.args.pcs c.args.placements.now (numbers (goal.at.returns-then-n-gt255 c) .Start)
+    (omega arith))
 
 pub overflow_add-size : goal.overflow_add-size
 overflow_add-size c = omega (arith, rows-most c.args.placements.now, c.placements_size-size.ensures, c.if-n-gt255.false)
@@ -25,16 +28,59 @@ pub overflow_add-total : goal.overflow_add-total
 overflow_add-total c = omega (arith, rows-most c.args.placements.now, c.placements_size-size.ensures, c.if-n-gt255.false)
 
 pub returns-then-out-total : goal.returns-then-out-total
-returns-then-out-total c = let f = pcs_segment c.args.pts c.args.dts c.args.pcs c.args.placements.now in write-34 f c.args.out.now (pcs-writable c.args.pts c.args.dts c.args.pcs c.args.placements.now c.ranges.pts.fits c.ranges.dts.fits (numbers (goal.at.returns-then-out-total c).Start) c.if-n-gt255.false (sym c.placements_fit.ensures ∙ c.if-placements_fit.true)) (omega (arith, encode-length f, pcs-length c.args.pts c.args.dts c.args.pcs c.args.placements.now, c.placements_size-size.ensures, c.if-out-total.true))
+returns-then-out-total c =
+    let f = pcs_segment c.args.pts c.args.dts c.args.pcs c.args.placements.now in
+    write-34 f c.args.out.now
+    (pcs-writable c.args.pts c.args.dts c.args.pcs c.args.placements.now c.ranges.pts.fits c.ranges.dts.fits
+    (numbers (goal.at.returns-then-out-total c) .Start) c.if-n-gt255.false
+    (sym c.placements_fit.ensures ∙ c.if-placements_fit.true))
+    (omega (
+      arith,
+      encode-length f,
+      pcs-length c.args.pts c.args.dts c.args.pcs c.args.placements.now,
+      c.placements_size-size.ensures,
+      c.if-out-total.true,
+    ))
 
 pub overflow_cast-size : goal.overflow_cast-size
 overflow_cast-size c = omega (arith, rows-most c.args.placements.now, c.placements_size-size.ensures, c.if-n-gt255.false)
 
 pub put_placements-requires : goal.put_placements-requires
-put_placements-requires c = record { placements_value = (sym c.placements_fit.ensures ∙ c.if-placements_fit.true); placements_in_bounds = omega (arith, c.placements_size-size.ensures, c.put_pcs.auto.out, c.put_head.auto.out, c.if-out-total.false) }
+put_placements-requires c =
+    record {
+      placements_value = (sym c.placements_fit.ensures ∙ c.if-placements_fit.true);
+      placements_in_bounds = omega
+          (arith, c.placements_size-size.ensures, c.put_pcs.auto.out, c.put_head.auto.out, c.if-out-total.false);
+    }
 
 pub returns-else-out-total : goal.returns-else-out-total
-returns-else-out-total c = let f = pcs_segment c.args.pts c.args.dts c.args.pcs c.args.placements.now in write-all f c.args.out.now (pcs-writable c.args.pts c.args.dts c.args.pcs c.args.placements.now c.ranges.pts.fits c.ranges.dts.fits (numbers (goal.at.returns-else-out-total c).Start) c.if-n-gt255.false (sym c.placements_fit.ensures ∙ c.if-placements_fit.true)) (omega (arith, encode-length f, pcs-length c.args.pts c.args.dts c.args.pcs c.args.placements.now, c.placements_size-size.ensures, c.if-out-total.false)) (omega (arith, encode-length f, pcs-length c.args.pts c.args.dts c.args.pcs c.args.placements.now, c.placements_size-size.ensures)) (encoded f c.args.out.now (ap (λ (k : ℕ). 11 + k) c.placements_size-size.ensures ∙ sym (pcs-length c.args.pts c.args.dts c.args.pcs c.args.placements.now)) c.put_head.ensures (pcs-body c.args.pts c.args.dts c.args.pcs c.args.placements.now c.put_head.new.out c.put_pcs.ensures c.put_placements.ensures))
+returns-else-out-total c =
+    let f = pcs_segment c.args.pts c.args.dts c.args.pcs c.args.placements.now in
+    write-all f c.args.out.now
+    (pcs-writable c.args.pts c.args.dts c.args.pcs c.args.placements.now c.ranges.pts.fits c.ranges.dts.fits
+    (numbers (goal.at.returns-else-out-total c) .Start) c.if-n-gt255.false
+    (sym c.placements_fit.ensures ∙ c.if-placements_fit.true))
+    (omega (
+      arith,
+      encode-length f,
+      pcs-length c.args.pts c.args.dts c.args.pcs c.args.placements.now,
+      c.placements_size-size.ensures,
+      c.if-out-total.false,
+    ))
+    (omega (
+      arith,
+      encode-length f,
+      pcs-length c.args.pts c.args.dts c.args.pcs c.args.placements.now,
+      c.placements_size-size.ensures,
+    ))
+    (encoded f c.args.out.now
+    (ap (λ (k : ℕ). 11 + k) c.placements_size-size.ensures
+    ∙ sym (pcs-length c.args.pts c.args.dts c.args.pcs c.args.placements.now)) c.put_head.ensures
+    (pcs-body c.args.pts c.args.dts c.args.pcs c.args.placements.now c.put_head.new.out c.put_pcs.ensures
+    c.put_placements.ensures))
 
 pub returns-else-placements_fit : goal.returns-else-placements_fit
-returns-else-placements_fit c = write-35 (pcs_segment c.args.pts c.args.dts c.args.pcs c.args.placements.now) c.args.out.now (pcs-unfit c.args.pts c.args.dts c.args.pcs c.args.placements.now (sym c.placements_fit.ensures ∙ c.if-placements_fit.false))
+returns-else-placements_fit c =
+    write-35 (pcs_segment c.args.pts c.args.dts c.args.pcs c.args.placements.now) c.args.out.now
+    (pcs-unfit c.args.pts c.args.dts c.args.pcs c.args.placements.now
+    (sym c.placements_fit.ensures ∙ c.if-placements_fit.false))

@@ -21,7 +21,11 @@ pub loop-i-preserved : goal.loop-i-preserved
 loop-i-preserved c = passes (λ (r : List ℕ). r) c.args.placements.now placement_row_fits c.loop-i.invariant c.loop-i-test.true (sym c.placement_fits.ensures ∙ c.if-placement_fits.true)
 
 pub returns-else-placement_fits : goal.returns-else-placement_fits
-returns-else-placement_fits c = sym (fails (λ (r : List ℕ). r) c.args.placements.now placement_row_fits c.loop-i.invariant c.loop-i-test.true (sym c.placement_fits.ensures ∙ c.if-placement_fits.false)) ∙ rows_fit c.args.placements.now
+returns-else-placement_fits c =
+    sym
+    (fails (λ (r : List ℕ). r) c.args.placements.now placement_row_fits c.loop-i.invariant c.loop-i-test.true
+    (sym c.placement_fits.ensures ∙ c.if-placement_fits.false))
+    ∙ rows_fit c.args.placements.now
 
 pub returns : goal.returns
 returns c = sym (passed (λ (r : List ℕ). r) c.args.placements.now placement_row_fits c.loop-i.invariant c.loop-i-test.false) ∙ rows_fit c.args.placements.now

@@ -17,7 +17,14 @@ pub bounds-placements-i : goal.bounds-placements-i
 bounds-placements-i c = c.loop-i-test.true
 
 pub overflow_add-size : goal.overflow_add-size
-overflow_add-size c = omega (arith, within placement_from c.args.placements.now placement_fields 0 c.loop-i.invariant c.loop-i-test.true, rows-most c.args.placements.now, c.placement_size-size.ensures, c.requires)
+overflow_add-size c =
+    omega (
+      arith,
+      within placement_from c.args.placements.now placement_fields 0 c.loop-i.invariant c.loop-i-test.true,
+      rows-most c.args.placements.now,
+      c.placement_size-size.ensures,
+      c.requires,
+    )
 
 pub loop-i-preserved : goal.loop-i-preserved
 loop-i-preserved c = measures placement_from c.args.placements.now placement_fields 0 c.loop-i.invariant c.loop-i-test.true c.placement_size-size.ensures

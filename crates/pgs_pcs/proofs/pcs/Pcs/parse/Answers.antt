@@ -22,11 +22,26 @@ pub returns-then-placements-n : goal.returns-then-placements-n
 returns-then-placements-n c = let b = c.args.body.now in let e = c.in-List.ensures in delivers-short (gave (pcs_verdict b) (pcs_list b) e) (omega (arith, placement-rows b, count-is b e))
 
 pub fill_placements-requires : goal.fill_placements-requires
-fill_placements-requires c = let b = c.args.body.now in let e = c.in-List.ensures in let ok = gave (pcs_verdict b) (pcs_list b) e in record { in_bounds = has-numbers b ok; body_value = rw (count-is b e) (has-placements b ok); n_in_bounds = omega arith }
+fill_placements-requires c =
+    let b = c.args.body.now in
+    let e = c.in-List.ensures in
+    let ok = gave (pcs_verdict b) (pcs_list b) e in
+    record {
+      in_bounds = has-numbers b ok;
+      body_value = rw (count-is b e) (has-placements b ok);
+      n_in_bounds = omega arith;
+    }
 
 pub returns-in-Refused : goal.returns-in-Refused
 returns-in-Refused c = let b = c.args.body.now in delivers-refusal (turned_down (pcs_verdict b) (pcs_list b) (c.in-Refused.ensures))
 
 pub returns-else-placements-n : goal.returns-else-placements-n
 unfolding placement_rows
-returns-else-placements-n c = let b = c.args.body.now in let e = c.in-List.ensures in delivers-all (gave (pcs_verdict b) (pcs_list b) e) (omega (arith, placement-rows b, count-is b e, c.if-placements-n.false)) (λ k. (c.numbers.ensures k, count-is b e k)) (c.fill_placements.ensures ∙ rows_at placement_row placement_of placement_size (drop 11 b) c.args.placements.now (count-is b e))
+returns-else-placements-n c =
+    let b = c.args.body.now in
+    let e = c.in-List.ensures in
+    delivers-all (gave (pcs_verdict b) (pcs_list b) e)
+    (omega (arith, placement-rows b, count-is b e, c.if-placements-n.false))
+    (λ k. (c.numbers.ensures k, count-is b e k))
+    (c.fill_placements.ensures
+    ∙ rows_at placement_row placement_of placement_size (drop 11 b) c.args.placements.now (count-is b e))

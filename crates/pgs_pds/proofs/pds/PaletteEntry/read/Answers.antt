@@ -14,4 +14,13 @@ byte : (l : List ℕ) (i : ℕ) → 5 ≤ length l → i < 5 → get_or l i 0 �
 byte l i h q = num-byte i l (omega arith)
 
 pub returns : goal.returns
-returns c = let l = c.args.l.now in let h = c.requires in λ k. record { palette_entry_id = byte l 0 h (omega arith) k; y = byte l 1 h (omega arith) k; cr = byte l 2 h (omega arith) k; cb = byte l 3 h (omega arith) k; alpha = byte l 4 h (omega arith) k }
+returns c =
+    let l = c.args.l.now in
+    let h = c.requires in
+    λ k. record {
+      palette_entry_id = byte l 0 h (omega arith) k;
+      y = byte l 1 h (omega arith) k;
+      cr = byte l 2 h (omega arith) k;
+      cb = byte l 3 h (omega arith) k;
+      alpha = byte l 4 h (omega arith) k;
+    }

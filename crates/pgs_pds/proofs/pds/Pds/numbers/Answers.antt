@@ -1,4 +1,3 @@
-
 use Rattle.pgs_pds.proofs.pds.Pds.numbers.Goals as goal
 
 pub returns : goal.returns

@@ -22,11 +22,20 @@ pub returns-then-entries-n : goal.returns-then-entries-n
 returns-then-entries-n c = let b = c.args.body.now in let e = c.in-List.ensures in delivers-short (gave (pds_verdict b) (pds_list b) e) (omega (arith, entry-rows b, count-is b e))
 
 pub fill_entries-requires : goal.fill_entries-requires
-fill_entries-requires c = let b = c.args.body.now in let e = c.in-List.ensures in let ok = gave (pds_verdict b) (pds_list b) e in record { in_bounds = has-numbers b ok; body_value = rw (count-is b e) (has-entries b); n_in_bounds = omega arith }
+fill_entries-requires c =
+    let b = c.args.body.now in
+    let e = c.in-List.ensures in
+    let ok = gave (pds_verdict b) (pds_list b) e in
+    record { in_bounds = has-numbers b ok; body_value = rw (count-is b e) (has-entries b); n_in_bounds = omega arith }
 
 pub returns-in-Refused : goal.returns-in-Refused
 returns-in-Refused c = let b = c.args.body.now in delivers-refusal (turned_down (pds_verdict b) (pds_list b) (c.in-Refused.ensures))
 
 pub returns-else-entries-n : goal.returns-else-entries-n
 unfolding entry_rows
-returns-else-entries-n c = let b = c.args.body.now in let e = c.in-List.ensures in delivers-all (gave (pds_verdict b) (pds_list b) e) (omega (arith, entry-rows b, count-is b e, c.if-entries-n.false)) (λ k. (c.numbers.ensures k, count-is b e k)) (c.fill_entries.ensures ∙ rows_at entry_row entry_of entry_size (drop 2 b) c.args.entries.now (count-is b e))
+returns-else-entries-n c =
+    let b = c.args.body.now in
+    let e = c.in-List.ensures in
+    delivers-all (gave (pds_verdict b) (pds_list b) e) (omega (arith, entry-rows b, count-is b e, c.if-entries-n.false))
+    (λ k. (c.numbers.ensures k, count-is b e k))
+    (c.fill_entries.ensures ∙ rows_at entry_row entry_of entry_size (drop 2 b) c.args.entries.now (count-is b e))

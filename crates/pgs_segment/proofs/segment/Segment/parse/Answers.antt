@@ -34,4 +34,13 @@ pub returns-in-Refused : goal.returns-in-Refused
 returns-in-Refused c = let l = c.args.buf.now in refuses-as (segment_of l) (turned_down (segment_verdict l) (frame_of l) (c.in-Refused.ensures))
 
 pub returns-in-Framed : goal.returns-in-Framed
-returns-in-Framed c = let l = c.args.buf.now in let e = (c.in-Framed.ensures) in gives_as (ok l e) (λ j. record { header = (frame_is l e j).header; body = lent-numbers l (c.from_raw-kind.ensures ∙ ap type_of (kind-is l e)) (size_is l e) c.numbers-body.ensures j; list = (frame_is l e j).list; used = 13 + size_is l e j })
+returns-in-Framed c =
+    let l = c.args.buf.now in
+    let e = (c.in-Framed.ensures) in
+    gives_as (ok l e)
+    (λ j. record {
+      header = (frame_is l e j) .header;
+      body = lent-numbers l (c.from_raw-kind.ensures ∙ ap type_of (kind-is l e)) (size_is l e) c.numbers-body.ensures j;
+      list = (frame_is l e j) .list;
+      used = 13 + size_is l e j;
+    })

@@ -10,4 +10,9 @@ pub returns-in-Refused : goal.returns-in-Refused
 returns-in-Refused c = let b = c.args.body.now in let k = c.args.kind in refuses-as (numbers_of (body_of k b), body_list k b) (turned_down (body_verdict k b) (body_list k b) (c.in-Refused.ensures))
 
 pub returns-in-List : goal.returns-in-List
-returns-in-List c = let b = c.args.body.now in let k = c.args.kind in let e = c.in-List.ensures in gives_as (gave (body_verdict k b) (body_list k b) e) (λ j. (c.numbers.ensures j, gave-value (body_verdict k b) (body_list k b) e j))
+returns-in-List c =
+    let b = c.args.body.now in
+    let k = c.args.kind in
+    let e = c.in-List.ensures in
+    gives_as (gave (body_verdict k b) (body_list k b) e)
+    (λ j. (c.numbers.ensures j, gave-value (body_verdict k b) (body_list k b) e j))

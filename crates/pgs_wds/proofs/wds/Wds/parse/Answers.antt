@@ -22,11 +22,20 @@ pub returns-then-windows-n : goal.returns-then-windows-n
 returns-then-windows-n c = let b = c.args.body.now in let e = c.in-List.ensures in delivers-short (gave (wds_verdict b) (wds_list b) e) (omega (arith, window-rows b, count-is b e))
 
 pub fill_windows-requires : goal.fill_windows-requires
-fill_windows-requires c = let b = c.args.body.now in let e = c.in-List.ensures in let ok = gave (wds_verdict b) (wds_list b) e in record { in_bounds = has-count b ok; body_value = rw (count-is b e) (has-windows b ok); n_in_bounds = omega arith }
+fill_windows-requires c =
+    let b = c.args.body.now in
+    let e = c.in-List.ensures in
+    let ok = gave (wds_verdict b) (wds_list b) e in
+    record { in_bounds = has-count b ok; body_value = rw (count-is b e) (has-windows b ok); n_in_bounds = omega arith }
 
 pub returns-in-Refused : goal.returns-in-Refused
 returns-in-Refused c = let b = c.args.body.now in delivers-refusal (turned_down (wds_verdict b) (wds_list b) (c.in-Refused.ensures))
 
 pub returns-else-windows-n : goal.returns-else-windows-n
 unfolding window_rows
-returns-else-windows-n c = let b = c.args.body.now in let e = c.in-List.ensures in delivers-all (gave (wds_verdict b) (wds_list b) e) (omega (arith, window-rows b, count-is b e, c.if-windows-n.false)) (count-is b e) (c.fill_windows.ensures ∙ rows_at window_row window_of window_size (drop 1 b) c.args.windows.now (count-is b e))
+returns-else-windows-n c =
+    let b = c.args.body.now in
+    let e = c.in-List.ensures in
+    delivers-all (gave (wds_verdict b) (wds_list b) e)
+    (omega (arith, window-rows b, count-is b e, c.if-windows-n.false)) (count-is b e)
+    (c.fill_windows.ensures ∙ rows_at window_row window_of window_size (drop 1 b) c.args.windows.now (count-is b e))
