@@ -45,7 +45,7 @@ room g at (x ∷ xs) w e =
     go : (g : Grouping) (t : SegmentType) → segment_type x ≡ t → and_then (kind_verdict g t) (group_verdict (state_after g t) xs) ≡ accepted
         → ((g' : Grouping) → group_verdict g' xs ≡ accepted → length (sets_from (at + length x) xs) * 37 + ending g' ≤ bytes_in xs)
         → length (pick (is_pcs t) (record { place = at; opening = x; others = through_end xs } ∷ sets_from (at + length x) xs)
-            (sets_from (at + length x) xs)) * 37 + ending g ≤ length x + bytes_in xs
+        (sets_from (at + length x) xs)) * 37 + ending g ≤ length x + bytes_in xs
     go Outside Pcs k e rest = omega (arith, rest (Inside false) e, pcs-long x w.0 k)
     go Outside Wds k e rest = absurd (let z : ◌≡◌ {A = ℕ} 0 1 = cc in omega arith)
     go Outside Pds k e rest = absurd (let z : ◌≡◌ {A = ℕ} 0 1 = cc in omega arith)
@@ -69,8 +69,8 @@ unfolding sets_of ending
 sets-room s e =
     omega (
       arith,
-      room Outside 0 (read_of s) .pieces (pieces_whole s) (second_holds (stream_verdict s) _ e),
-      bytes-joined (read_of s) .pieces,
+      room Outside 0 (read_of s).pieces (pieces_whole s) (second_holds (stream_verdict s) _ e),
+      bytes-joined (read_of s).pieces,
       ap length (pieces-joined s),
-      length-append (joined (read_of s) .pieces) (read_of s) .rest,
+      length-append (joined (read_of s).pieces) (read_of s).rest,
     )

@@ -44,7 +44,7 @@ look-same scratch rest at from [] id ok e = refl
 look-same scratch rest at from (c ∷ cs) id ok e =
     go (eqb (object_id c) id)
     (look-same scratch rest (at + width_of c * height_of c) (from + length (copied_data c)) cs id
-    (second_holds (reading_of (data_of c) (width_of c) (height_of c)) .verdict (bitmaps_verdict cs) ok) after)
+    (second_holds (reading_of (data_of c) (width_of c) (height_of c)).verdict (bitmaps_verdict cs) ok) after)
   where
     area : length (bitmap_of (data_of c)) ≡ width_of c * height_of c
     area = bitmap-area (data_of c) (width_of c) (height_of c) (first-accepts (reading_of (data_of c) (width_of c) (height_of c)).verdict (bitmaps_verdict cs) ok)

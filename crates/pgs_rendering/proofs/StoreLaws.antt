@@ -188,7 +188,7 @@ module _ (s : List ℕ) (rows : List (List ℕ)) (from : ℕ) (start : List ℕ)
                 ∙ c.left;
             reads = second_holds
                 (reading_of (shown_by s start (get_or rows i [])) (get_or (get_or rows i []) 2 0)
-                (get_or (get_or rows i []) 3 0)) .verdict (rows_reading s start (drop (i + 1) rows)) ok;
+                (get_or (get_or rows i []) 3 0)).verdict (rows_reading s start (drop (i + 1) rows)) ok;
           }
         where
           new : List ℕ

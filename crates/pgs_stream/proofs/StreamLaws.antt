@@ -184,7 +184,7 @@ module _ (s : List ℕ) (n : ℕ) where
             ap (λ (x : Reading). rows_from at x.pieces) r
             ∙ (λ j. row_of at (drop at s) ok j
             ∷ rows_from (at + length-take-le (used_by (drop at s)) (drop at s) (step-within (drop at s) ok) j)
-            (read_of (drop (used_by (drop at s)) (drop at s))) .pieces)
+            (read_of (drop (used_by (drop at s)) (drop at s))).pieces)
 
         next : Front start (segment_rows s) now (segment_row at (drop at s) ∷ rows_from (at + used_by (drop at s)) (read_of (drop (used_by (drop at s)) (drop at s))).pieces) i
         next = rw rows at c.front

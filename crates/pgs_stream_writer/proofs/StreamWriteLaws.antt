@@ -97,11 +97,9 @@ module _ (f : SegmentFields) (o : List ℕ) where
 
 -- parts that go to the end
 pub lent-write : (s now : List ℕ) (from at : ℕ) {ys : List ℕ} {a : Outcome ℕ}
-    
     → Delivered (write_verdict (fields_of (take (length s - from) (drop from s))))
     (length (encode (fields_of (take (length s - from) (drop from s)))))
     (encode (fields_of (take (length s - from) (drop from s)))) (take (length now - at) (drop at now)) ys a
-    
     → Delivered (write_verdict (fields_of (drop from s))) (length (encode (fields_of (drop from s))))
     (encode (fields_of (drop from s))) (drop at now) ys a
 lent-write s now from at d = rw (to_end from s, to_end at now) at d
@@ -147,63 +145,63 @@ module _ (s : List ℕ) (n : ℕ) (start : List ℕ) {now : List ℕ} {i from at
   -- the write of this segment
   module _ (answer : WriteAnswer) {ys : List ℕ}
       (d : Delivered (write_verdict (fields_of (drop from s))) (length (encode (fields_of (drop from s)))) (encode (fields_of (drop from s))) (drop at now) ys (write_outcome answer))
-      where
-    moves : bytes_written answer ≡ moved_by (write_into (fields_of (drop from s)) (drop at now)) (length (encode (fields_of (drop from s))))
-    moves = answer-moves (length (encode (fields_of (drop from s)))) answer (write_into (fields_of (drop from s)) (drop at now)) d.answered
+    where
+      moves : bytes_written answer ≡ moved_by (write_into (fields_of (drop from s)) (drop at now)) (length (encode (fields_of (drop from s))))
+      moves = answer-moves (length (encode (fields_of (drop from s)))) answer (write_into (fields_of (drop from s)) (drop at now)) d.answered
 
-    counts : writes_accepted answer ≡ counted (write_into (fields_of (drop from s)) (drop at now))
-    counts = answer-counts (length (encode (fields_of (drop from s)))) answer (write_into (fields_of (drop from s)) (drop at now)) d.answered
+      counts : writes_accepted answer ≡ counted (write_into (fields_of (drop from s)) (drop at now))
+      counts = answer-counts (length (encode (fields_of (drop from s)))) answer (write_into (fields_of (drop from s)) (drop at now)) d.answered
 
-    -- the writes that are left are this one before the others
-    run-left : run (take (n - i) (stream_fields (drop from s))) at now
-        ≡ after (write_into (fields_of (drop from s)) (drop at now))
-        (run (take (n - (i + 1)) (stream_fields (drop (from + used_by (drop from s)) s))) (at + bytes_written answer) (take at now ++ ys))
-    run-left =
-        ap (λ (fs : List SegmentFields). run fs at now) rest-left
-        ∙ (let e = sym d.written in
-        let m = sym moves in
-        λ j. after (write_into (fields_of (drop from s)) (drop at now)) (run (take (n - (i + 1)) (stream_fields (drop (from + used_by (drop from s)) s))) (at + m j) (take at now ++ e j)))
+      -- the writes that are left are this one before the others
+      run-left : run (take (n - i) (stream_fields (drop from s))) at now
+          ≡ after (write_into (fields_of (drop from s)) (drop at now))
+          (run (take (n - (i + 1)) (stream_fields (drop (from + used_by (drop from s)) s))) (at + bytes_written answer) (take at now ++ ys))
+      run-left =
+          ap (λ (fs : List SegmentFields). run fs at now) rest-left
+          ∙ (let e = sym d.written in
+          let m = sym moves in
+          λ j. after (write_into (fields_of (drop from s)) (drop at now)) (run (take (n - (i + 1)) (stream_fields (drop (from + used_by (drop from s)) s))) (at + m j) (take at now ++ e j)))
 
-    written-length : length (take at now ++ ys) ≡ length now
-    written-length =
-        let w = write-fits (fields_of (drop from s)) (drop at now) (write_into (fields_of (drop from s)) (drop at now)) refl in
-        length-append (take at now) ys
-        ∙ omega (arith, length-take-le at now c.room, ap length d.written, w.0, length-drop at now, c.room)
+      written-length : length (take at now ++ ys) ≡ length now
+      written-length =
+          let w = write-fits (fields_of (drop from s)) (drop at now) (write_into (fields_of (drop from s)) (drop at now)) refl in
+          length-append (take at now) ys
+          ∙ omega (arith, length-take-le at now c.room, ap length d.written, w.0, length-drop at now, c.room)
 
-    pub ends-within : at + bytes_written answer ≤ length now
-    ends-within =
-        let w = write-fits (fields_of (drop from s)) (drop at now) (write_into (fields_of (drop from s)) (drop at now)) refl in
-        omega (arith, moves, w.1, length-drop at now, c.room)
+      pub ends-within : at + bytes_written answer ≤ length now
+      ends-within =
+          let w = write-fits (fields_of (drop from s)) (drop at now) (write_into (fields_of (drop from s)) (drop at now)) refl in
+          omega (arith, moves, w.1, length-drop at now, c.room)
 
-    pub counts-one : writes_accepted answer ≤ 1
-    counts-one = at_most answer
-      where
-        at_most : (a : WriteAnswer) → writes_accepted a ≤ 1
-        at_most (answers.Written k) = omega arith
-        at_most (answers.Refused r) = omega arith
+      pub counts-one : writes_accepted answer ≤ 1
+      counts-one = at_most answer
+        where
+          at_most : (a : WriteAnswer) → writes_accepted a ≤ 1
+          at_most (answers.Written k) = omega arith
+          at_most (answers.Refused r) = omega arith
 
-    pub performs-on : Performing s n start (take at now ++ ys) (i + 1) (from + used_by (drop from s)) (at + bytes_written answer) (done + writes_accepted answer)
-    performs-on =
-        record {
-          upto = omega arith;
-          inside = next-within;
-          room = omega (arith, ends-within, written-length);
-          same = written-length ∙ c.same;
-          few = omega (arith, c.few, counts-one);
-          enough = rw (← drop-drop (used_by (drop from s)) from s)
-              (omega (arith, ap (λ (x : Reading). length x.pieces) left, c.enough));
-          position = sym (ap (λ (w : Written). w.position) run-left) ∙ c.position;
-          output = sym (ap (λ (w : Written). w.output) run-left) ∙ c.output;
-          number = omega (
-                arith,
-                c.number,
-                counts,
-                ap (λ (w : Written). accepted_in w.answers) run-left,
-                accepted-first (write_into (fields_of (drop from s)) (drop at now))
-                    (run (take (n - (i + 1)) (stream_fields (drop (from + used_by (drop from s)) s)))
-                    (at + bytes_written answer) (take at now ++ ys)) .answers,
-              );
-        }
+      pub performs-on : Performing s n start (take at now ++ ys) (i + 1) (from + used_by (drop from s)) (at + bytes_written answer) (done + writes_accepted answer)
+      performs-on =
+          record {
+            upto = omega arith;
+            inside = next-within;
+            room = omega (arith, ends-within, written-length);
+            same = written-length ∙ c.same;
+            few = omega (arith, c.few, counts-one);
+            enough = rw (← drop-drop (used_by (drop from s)) from s)
+                (omega (arith, ap (λ (x : Reading). length x.pieces) left, c.enough));
+            position = sym (ap (λ (w : Written). w.position) run-left) ∙ c.position;
+            output = sym (ap (λ (w : Written). w.output) run-left) ∙ c.output;
+            number = omega (
+              arith,
+              c.number,
+              counts,
+              ap (λ (w : Written). accepted_in w.answers) run-left,
+              accepted-first (write_into (fields_of (drop from s)) (drop at now))
+                  (run (take (n - (i + 1)) (stream_fields (drop (from + used_by (drop from s)) s)))
+                  (at + bytes_written answer) (take at now ++ ys)).answers,
+            );
+          }
 
 -- how the call ends, for an accepted stream and for a refused one
 module _ (n : ℕ) (s o : List ℕ) where

@@ -52,13 +52,12 @@ loop-at-preserved-then-data-at-ne0 c =
     (untested-literals _ c.loop-at.invariant.0 c.literals_from-n.ensures.3 c.literals_from-n.ensures.1, omega (arith, c.loop-at.invariant.1))
 
 pub run_at-mark-requires : goal.run_at-mark-requires
-run_at-mark-requires c =
-    (
-      omega (arith, (room (goal.at.run_at-mark-requires c) .In-loop-at) .0),
-      c.if-data-at-ne0.false,
-      c.if-second-ne0.true,
-      omega (arith, (room (goal.at.run_at-mark-requires c) .In-loop-at) .1, c.loop-at.invariant.1),
-    )
+run_at-mark-requires c = (
+  omega (arith, (room (goal.at.run_at-mark-requires c).In-loop-at).0),
+  c.if-data-at-ne0.false,
+  c.if-second-ne0.true,
+  omega (arith, (room (goal.at.run_at-mark-requires c).In-loop-at).1, c.loop-at.invariant.1),
+)
 
 pub loop-at-smaller-then-second-ne0 : goal.loop-at-smaller-then-second-ne0
 loop-at-smaller-then-second-ne0 c = omega (arith, c.run_at-mark.ensures.0, c.loop-at.invariant.0.within, (room (goal.at.loop-at-smaller-then-second-ne0 c).In-loop-at).0)
@@ -86,13 +85,12 @@ pub loop-at-smaller : goal.loop-at-smaller
 loop-at-smaller c = omega (arith, c.in-To.ensures.0, c.in-To.ensures.1.within)
 
 pub loop-at-preserved : goal.loop-at-preserved
-loop-at-preserved c =
-    (
-      untested-reached
-          (reached-step (reached-tested c.loop-at.invariant.0 (narrow (goal.at.loop-at-preserved c) .Else-width-column))
-          c.in-To.ensures.1),
-      omega (arith, c.in-To.ensures.0, c.in-To.ensures.1.narrow, c.requires.0),
-    )
+loop-at-preserved c = (
+  untested-reached
+      (reached-step (reached-tested c.loop-at.invariant.0 (narrow (goal.at.loop-at-preserved c).Else-width-column))
+      c.in-To.ensures.1),
+  omega (arith, c.in-To.ensures.0, c.in-To.ensures.1.narrow, c.requires.0),
+)
 
 pub returns-in-Refused : goal.returns-in-Refused
 returns-in-Refused c =

@@ -43,21 +43,19 @@ pub loop-code-smaller-in-Run : goal.loop-code-smaller-in-Run
 loop-code-smaller-in-Run c =
     omega (
       arith,
-      (taken_at _ _ c.loop-code.invariant.1.within (run-here (goal.at.loop-code-smaller-in-Run c) .In-Run)) .0,
-      (taken_at _ _ c.loop-code.invariant.1.within (run-here (goal.at.loop-code-smaller-in-Run c) .In-Run)) .1,
+      (taken_at _ _ c.loop-code.invariant.1.within (run-here (goal.at.loop-code-smaller-in-Run c).In-Run)).0,
+      (taken_at _ _ c.loop-code.invariant.1.within (run-here (goal.at.loop-code-smaller-in-Run c).In-Run)).1,
     )
 
 pub loop-code-smaller : goal.loop-code-smaller
 loop-code-smaller c = omega (arith, (taken_at _ _ c.loop-code.invariant.1.within (line-end-here (goal.at.loop-code-smaller c).In-LineEnd)).1)
 
 pub loop-code-preserved-in-Run : goal.loop-code-preserved-in-Run
-loop-code-preserved-in-Run c =
-    (
-      c.fill_run-out.auto.pixels ∙ c.loop-code.invariant.0,
-      storing-run c.loop-code.invariant.1 (run-here (goal.at.loop-code-preserved-in-Run c) .In-Run)
-          c.fill_run-out.auto.pixels c.fill_run-out.ensures,
-    )
+loop-code-preserved-in-Run c = (
+  c.fill_run-out.auto.pixels ∙ c.loop-code.invariant.0,
+  storing-run c.loop-code.invariant.1 (run-here (goal.at.loop-code-preserved-in-Run c).In-Run)
+      c.fill_run-out.auto.pixels c.fill_run-out.ensures,
+)
 
 pub loop-code-preserved : goal.loop-code-preserved
 loop-code-preserved c = (c.loop-code.invariant.0, storing-line c.loop-code.invariant.1 (line-end-here (goal.at.loop-code-preserved c).In-LineEnd))
-

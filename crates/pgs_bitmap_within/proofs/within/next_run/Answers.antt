@@ -25,4 +25,4 @@ pub returns-in-Truncated : goal.returns-in-Truncated
 returns-in-Truncated c =
     ahead_none c.args.«data».now c.args.from c.requires
     (pixels-truncated c.args.«data».now c.args.from
-    (found_here (goal.at.returns-in-Truncated c) .In-Code ∙ ap first_code c.in-Truncated.is))
+    (found_here (goal.at.returns-in-Truncated c).In-Code ∙ ap first_code c.in-Truncated.is))

@@ -16,8 +16,8 @@ pub truncating_f32_to_u64-requires : goal.truncating_f32_to_u64-requires
 unfolding of_bits of_int
 truncating_f32_to_u64-requires c =
     record {
-      lower_bound = (between (goal.at.truncating_f32_to_u64-requires c) .Then-v-2) .above;
-      upper_bound = (between (goal.at.truncating_f32_to_u64-requires c) .Then-v-2) .below;
+      lower_bound = (between (goal.at.truncating_f32_to_u64-requires c).Then-v-2).above;
+      upper_bound = (between (goal.at.truncating_f32_to_u64-requires c).Then-v-2).below;
     }
 
 pub overflow_cast-result : goal.overflow_cast-result

@@ -25,7 +25,7 @@ overflow_add-joined c =
       joined-total c.args.rows.now,
       c.requires,
       (checks-on c.args.rows.now c.loop-i.invariant c.loop-i-test.true c.if-row-ne1.false c.if-row-lt4.false
-          c.if-row.false c.copied_length-joined.ensures) .joins,
+          c.if-row.false c.copied_length-joined.ensures).joins,
     )
 
 pub loop-i-preserved : goal.loop-i-preserved

@@ -20,7 +20,7 @@ overflow_add-at c =
       joined-total c.args.rows.now,
       c.requires.rows_bound,
       (lists-on c.args.rows.now c.loop-i.invariant c.loop-i-test.true c.requires.rows_in_bounds
-          c.object_record.ensures c.copied_length-at.ensures) .joins,
+          c.object_record.ensures c.copied_length-at.ensures).joins,
     )
 
 pub loop-i-preserved : goal.loop-i-preserved

@@ -28,17 +28,17 @@ pub list_objects-requires : goal.list_objects-requires
 list_objects-requires c =
     record {
       rows_bound = omega (
-            arith,
-            c.well_formed.0.0,
-            (c.find_objects.ensures.found c.in-Found.count c.in-Found.field-1 (ap found_outcome c.in-Found.is)) .small,
-          );
+        arith,
+        c.well_formed.0.0,
+        (c.find_objects.ensures.found c.in-Found.count c.in-Found.field-1 (ap found_outcome c.in-Found.is)).small,
+      );
       rows_in_bounds = omega (
-            arith,
-            rows-length c.args.s.now (objects_verdict_within (length c.args.table.now) c.args.set c.args.s.now)
-                (objects_of c.args.set c.args.s.now) c.find_objects.new.table c.in-Found.count c.in-Found.field-1
-                (c.find_objects.ensures.found c.in-Found.count c.in-Found.field-1 (ap found_outcome c.in-Found.is)),
-            c.if-objects-count.false,
-          );
+        arith,
+        rows-length c.args.s.now (objects_verdict_within (length c.args.table.now) c.args.set c.args.s.now)
+            (objects_of c.args.set c.args.s.now) c.find_objects.new.table c.in-Found.count c.in-Found.field-1
+            (c.find_objects.ensures.found c.in-Found.count c.in-Found.field-1 (ap found_outcome c.in-Found.is)),
+        c.if-objects-count.false,
+      );
     }
 
 pub returns-in-Refused : goal.returns-in-Refused

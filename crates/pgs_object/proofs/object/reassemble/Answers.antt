@@ -33,17 +33,17 @@ pub list_objects-requires : goal.list_objects-requires
 list_objects-requires c =
     record {
       rows_bound = omega (
-            arith,
-            c.well_formed.0.0,
-            (c.find_objects.ensures.found c.in-Found.n c.in-Found.need (ap found_outcome c.in-Found.is)) .small,
-          );
+        arith,
+        c.well_formed.0.0,
+        (c.find_objects.ensures.found c.in-Found.n c.in-Found.need (ap found_outcome c.in-Found.is)).small,
+      );
       rows_in_bounds = omega (
-            arith,
-            rows-length c.args.s.now (objects_verdict_within (length c.args.table.now) c.args.set c.args.s.now)
-                (objects_of c.args.set c.args.s.now) c.find_objects.new.table c.in-Found.n c.in-Found.need
-                (c.find_objects.ensures.found c.in-Found.n c.in-Found.need (ap found_outcome c.in-Found.is)),
-            c.if-objects-n.false,
-          );
+        arith,
+        rows-length c.args.s.now (objects_verdict_within (length c.args.table.now) c.args.set c.args.s.now)
+            (objects_of c.args.set c.args.s.now) c.find_objects.new.table c.in-Found.n c.in-Found.need
+            (c.find_objects.ensures.found c.in-Found.n c.in-Found.need (ap found_outcome c.in-Found.is)),
+        c.if-objects-n.false,
+      );
     }
 
 pub slice_bounds-join_objects-end : goal.slice_bounds-join_objects-end

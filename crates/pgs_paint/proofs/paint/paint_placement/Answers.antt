@@ -42,14 +42,14 @@ met c =
 pub returns-then-s-eq0 : goal.returns-then-s-eq0
 returns-then-s-eq0 c =
     let a = c.args in
-    changes (met (goal.at.returns-then-s-eq0 c) .After-clip-s)
+    changes (met (goal.at.returns-then-s-eq0 c).After-clip-s)
     (no-columns (table_color a.table.now) _ c.clip-s.result _ a.width a.height (c.clip-s.ensures.by_index a.bitmap.now)
     a.plane.now c.if-s-eq0.true)
 
 pub returns-then-s-eq0-2 : goal.returns-then-s-eq0-2
 returns-then-s-eq0-2 c =
     let a = c.args in
-    changes (met (goal.at.returns-then-s-eq0-2 c) .After-clip-s)
+    changes (met (goal.at.returns-then-s-eq0-2 c).After-clip-s)
     (no-rows-shown (table_color a.table.now) _ c.clip-s.result _ a.width a.height
     (c.clip-s.ensures.by_index a.bitmap.now) a.plane.now c.if-s-eq0-2.true)
 

@@ -73,12 +73,11 @@ loop-j-preserved c =
     let s = args.s in
     let loop = c.loop-j in
     let row = c.paint_row in
-    let to = 4 * args.width * (s.y + loop.j) + 4 * s.x in
-    (
+    let to = 4 * args.width * (s.y + loop.j) + 4 * s.x in (
       omega arith,
       same_len_mid to (to + 4 * s.columns - to) loop.plane row.new.row row.auto.row ∙ loop.invariant.1,
       λ layer e. row_laid args.table.now args.bitmap.now args.plane.now loop.plane row.new.row s args.image_width
-          args.image_height args.width args.height loop.j (here (goal.at.loop-j-preserved c) .In-loop-j)
+          args.image_height args.width args.height loop.j (here (goal.at.loop-j-preserved c).In-loop-j)
           c.loop-j-test.true pre.bitmap_room pre.plane_room loop.invariant.1 row.ensures layer e
           (loop.invariant.2 layer e),
     )

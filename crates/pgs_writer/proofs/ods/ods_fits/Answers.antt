@@ -29,9 +29,9 @@ flag-fits c = search rules
 pub returns-then-o-gt16777215 : goal.returns-then-o-gt16777215
 returns-then-o-gt16777215 c =
     sym
-    (ods-long c.args.o (id-fits (goal.at.returns-then-o-gt16777215 c) .Start) .fits
-    (version-fits (goal.at.returns-then-o-gt16777215 c) .Start) .fits
-    (flag-fits (goal.at.returns-then-o-gt16777215 c) .Start) .fits (omega arith))
+    (ods-long c.args.o (id-fits (goal.at.returns-then-o-gt16777215 c).Start).fits
+    (version-fits (goal.at.returns-then-o-gt16777215 c).Start).fits
+    (flag-fits (goal.at.returns-then-o-gt16777215 c).Start).fits (omega arith))
 
 pub returns-in-Absent : goal.returns-in-Absent
 returns-in-Absent c =
@@ -39,8 +39,8 @@ returns-in-Absent c =
     pick-self (not c.is_first-first.result)
     ∙ (ap (λ (t : Bool). pick (not t) true false) (c.is_first-first.ensures ∙ ap is_first c.from_raw.ensures)
     ∙ sym
-    (ods-shape o (id-fits (goal.at.returns-in-Absent c) .Start) .fits
-    (version-fits (goal.at.returns-in-Absent c) .Start) .fits (flag-fits (goal.at.returns-in-Absent c) .Start) .fits
+    (ods-shape o (id-fits (goal.at.returns-in-Absent c).Start).fits
+    (version-fits (goal.at.returns-in-Absent c).Start).fits (flag-fits (goal.at.returns-in-Absent c).Start).fits
     c.if-o-gt16777215.false Absent c.in-Absent.is))
 
 pub returns-in-Present : goal.returns-in-Present
@@ -50,6 +50,6 @@ returns-in-Present c =
     ∙ (ap (λ (t : Bool). pick t (all_fit (dimension_fields (Present c.in-Present.width c.in-Present.height))) false)
     (c.is_first-first.ensures ∙ ap is_first c.from_raw.ensures)
     ∙ sym
-    (ods-shape o (id-fits (goal.at.returns-in-Present c) .Start) .fits
-    (version-fits (goal.at.returns-in-Present c) .Start) .fits (flag-fits (goal.at.returns-in-Present c) .Start) .fits
+    (ods-shape o (id-fits (goal.at.returns-in-Present c).Start).fits
+    (version-fits (goal.at.returns-in-Present c).Start).fits (flag-fits (goal.at.returns-in-Present c).Start).fits
     c.if-o-gt16777215.false (Present c.in-Present.width c.in-Present.height) c.in-Present.is))

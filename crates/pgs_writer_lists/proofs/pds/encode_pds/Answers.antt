@@ -29,8 +29,8 @@ pub returns-then-out-total : goal.returns-then-out-total
 returns-then-out-total c =
     write-34 (pds_segment c.args.pts c.args.dts c.args.pds c.args.entries.now) c.args.out.now
     (pds-writable c.args.pts c.args.dts c.args.pds c.args.entries.now c.ranges.pts.fits c.ranges.dts.fits
-    (id-byte (goal.at.returns-then-out-total c) .Start) .fits
-    (version-byte (goal.at.returns-then-out-total c) .Start) .fits c.if-n-gt13106.false
+    (id-byte (goal.at.returns-then-out-total c).Start).fits
+    (version-byte (goal.at.returns-then-out-total c).Start).fits c.if-n-gt13106.false
     (sym c.entries_fit.ensures ∙ c.if-entries_fit.true))
     (omega (
       arith,
@@ -54,8 +54,8 @@ pub returns-else-out-total : goal.returns-else-out-total
 returns-else-out-total c =
     write-all (pds_segment c.args.pts c.args.dts c.args.pds c.args.entries.now) c.args.out.now
     (pds-writable c.args.pts c.args.dts c.args.pds c.args.entries.now c.ranges.pts.fits c.ranges.dts.fits
-    (id-byte (goal.at.returns-else-out-total c) .Start) .fits
-    (version-byte (goal.at.returns-else-out-total c) .Start) .fits c.if-n-gt13106.false
+    (id-byte (goal.at.returns-else-out-total c).Start).fits
+    (version-byte (goal.at.returns-else-out-total c).Start).fits c.if-n-gt13106.false
     (sym c.entries_fit.ensures ∙ c.if-entries_fit.true))
     (omega (
       arith,

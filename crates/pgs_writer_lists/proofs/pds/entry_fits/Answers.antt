@@ -18,8 +18,8 @@ pub returns : goal.returns
 returns c =
     id-fits (get_or c.args.e 0 0) _
     (simp (
-      lt-ltb (get_or c.args.e 1 0) 256 (cell (goal.at.returns c) .Start 1) .fits,
-      lt-ltb (get_or c.args.e 2 0) 256 (cell (goal.at.returns c) .Start 2) .fits,
-      lt-ltb (get_or c.args.e 3 0) 256 (cell (goal.at.returns c) .Start 3) .fits,
-      lt-ltb (get_or c.args.e 4 0) 256 (cell (goal.at.returns c) .Start 4) .fits,
+      lt-ltb (get_or c.args.e 1 0) 256 (cell (goal.at.returns c).Start 1).fits,
+      lt-ltb (get_or c.args.e 2 0) 256 (cell (goal.at.returns c).Start 2).fits,
+      lt-ltb (get_or c.args.e 3 0) 256 (cell (goal.at.returns c).Start 3).fits,
+      lt-ltb (get_or c.args.e 4 0) 256 (cell (goal.at.returns c).Start 4).fits,
     ))

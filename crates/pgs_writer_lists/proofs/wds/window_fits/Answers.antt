@@ -18,8 +18,8 @@ pub returns : goal.returns
 returns c =
     id-fits (get_or c.args.w 0 0) _
     (simp (
-      lt-ltb (get_or c.args.w 1 0) 65536 (cell (goal.at.returns c) .Start 1) .fits,
-      lt-ltb (get_or c.args.w 2 0) 65536 (cell (goal.at.returns c) .Start 2) .fits,
-      lt-ltb (get_or c.args.w 3 0) 65536 (cell (goal.at.returns c) .Start 3) .fits,
-      lt-ltb (get_or c.args.w 4 0) 65536 (cell (goal.at.returns c) .Start 4) .fits,
+      lt-ltb (get_or c.args.w 1 0) 65536 (cell (goal.at.returns c).Start 1).fits,
+      lt-ltb (get_or c.args.w 2 0) 65536 (cell (goal.at.returns c).Start 2).fits,
+      lt-ltb (get_or c.args.w 3 0) 65536 (cell (goal.at.returns c).Start 3).fits,
+      lt-ltb (get_or c.args.w 4 0) 65536 (cell (goal.at.returns c).Start 4).fits,
     ))

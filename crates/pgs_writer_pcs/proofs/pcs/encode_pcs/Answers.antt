@@ -18,7 +18,7 @@ numbers c = search rules
 pub returns-then-n-gt255 : goal.returns-then-n-gt255
 returns-then-n-gt255 c =
     write-35 (pcs_segment c.args.pts c.args.dts c.args.pcs c.args.placements.now) c.args.out.now
-    (pcs-many c.args.pts c.args.dts c.args.pcs c.args.placements.now (numbers (goal.at.returns-then-n-gt255 c) .Start)
+    (pcs-many c.args.pts c.args.dts c.args.pcs c.args.placements.now (numbers (goal.at.returns-then-n-gt255 c).Start)
     (omega arith))
 
 pub overflow_add-size : goal.overflow_add-size
@@ -32,7 +32,7 @@ returns-then-out-total c =
     let f = pcs_segment c.args.pts c.args.dts c.args.pcs c.args.placements.now in
     write-34 f c.args.out.now
     (pcs-writable c.args.pts c.args.dts c.args.pcs c.args.placements.now c.ranges.pts.fits c.ranges.dts.fits
-    (numbers (goal.at.returns-then-out-total c) .Start) c.if-n-gt255.false
+    (numbers (goal.at.returns-then-out-total c).Start) c.if-n-gt255.false
     (sym c.placements_fit.ensures ∙ c.if-placements_fit.true))
     (omega (
       arith,
@@ -58,7 +58,7 @@ returns-else-out-total c =
     let f = pcs_segment c.args.pts c.args.dts c.args.pcs c.args.placements.now in
     write-all f c.args.out.now
     (pcs-writable c.args.pts c.args.dts c.args.pcs c.args.placements.now c.ranges.pts.fits c.ranges.dts.fits
-    (numbers (goal.at.returns-else-out-total c) .Start) c.if-n-gt255.false
+    (numbers (goal.at.returns-else-out-total c).Start) c.if-n-gt255.false
     (sym c.placements_fit.ensures ∙ c.if-placements_fit.true))
     (omega (
       arith,

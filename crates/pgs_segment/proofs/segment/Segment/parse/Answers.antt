@@ -39,8 +39,8 @@ returns-in-Framed c =
     let e = (c.in-Framed.ensures) in
     gives_as (ok l e)
     (λ j. record {
-      header = (frame_is l e j) .header;
+      header = (frame_is l e j).header;
       body = lent-numbers l (c.from_raw-kind.ensures ∙ ap type_of (kind-is l e)) (size_is l e) c.numbers-body.ensures j;
-      list = (frame_is l e j) .list;
+      list = (frame_is l e j).list;
       used = 13 + size_is l e j;
     })
