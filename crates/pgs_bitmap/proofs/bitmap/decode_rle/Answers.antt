@@ -1,5 +1,5 @@
 -- `decode_rle` meets its contract: each answer follows from what the check found. Assumes nothing.
-use mathlib.Core.Path.{◌≡◌, ◌∙◌, sym, ap}
+use mathlib.Core.Path.{◌≡◌, sym, ap}
 use lib.Seq.{length-take-le}
 use Rattle.pgs_base.specs.Outcome.{accepted}
 use Rattle.pgs_bitmap_check.specs.Bitmap.{reading_of}

@@ -1,17 +1,9 @@
 -- `check_codes` meets its contract. The loop's invariant: reading on from this place comes to the same, with the width not tested yet, and the
 -- pixels of the line are not many for the bytes that were read. The measure is what is left of the data. Assumes nothing.
-use mathlib.Core.Path.{◌∙◌, sym, subst}
-use Prim.Native.Nat.{◌+◌, ◌-◌, ◌*◌, ◌^◌, ◌≤◌, ◌<◌}
-use native.Mathlib.Omega.{arith}
+use Prim.Native.Nat.{◌-◌, ◌*◌, ◌≤◌}
 use lib.ListN.{length}
 use Rattle.pgs_bitmap_check.specs.Bitmap.{reading_of}
-use Rattle.pgs_bitmap_check.specs.Progress.{Untested, Stepped}
-use Rattle.pgs_bitmap_check.specs.declared.bitmap.Step.{Step}
-use Rattle.pgs_bitmap_check.specs.declared.bitmap.Step.TheVariants.{To}
-use Rattle.pgs_run_length.proofs.OneCode.{code-escape, escape-line-end}
-use Rattle.pgs_bitmap_check.proofs.BitmapSteps.{reached-start, reached-step}
-use Rattle.pgs_bitmap_check.proofs.UntestedWidth.{untested-reached, reached-tested}
-use Rattle.pgs_bitmap_check.proofs.LiteralStretch.{untested-literals}
+use Rattle.pgs_bitmap_check.specs.Progress.{Untested}
 use Rattle.pgs_bitmap_check.proofs.bitmap.check_codes.Given as goal
 
 abbrev pub invariant-loop-at : goal.invariant-loop-at

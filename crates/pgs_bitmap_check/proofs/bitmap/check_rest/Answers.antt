@@ -1,16 +1,9 @@
 -- `check_rest` meets its contract. The loop's invariant: reading on from this place comes to the same. The measure is what is left of
 -- the data. Assumes nothing.
-use mathlib.Core.Path.{refl, ◌∙◌, sym, ap, subst}
-use Prim.Native.Nat.{◌-◌}
+use mathlib.Core.Path.{refl, ◌∙◌, sym, ap}
 use native.Mathlib.Omega.{arith}
-use lib.ListN.{length, drop}
 use Rattle.pgs_run_length.specs.NextCode.{code_at}
-use Rattle.pgs_bitmap_check.specs.Bitmap.{read_on}
-use Rattle.pgs_bitmap_check.specs.Progress.{Reached, Stepped}
-use Rattle.pgs_bitmap_check.specs.declared.bitmap.Step.{Step}
-use Rattle.pgs_bitmap_check.specs.declared.bitmap.Step.TheVariants.{To}
 use Rattle.pgs_bitmap_check.proofs.BitmapSteps.{reached-step, reached-end}
-use Rattle.pgs_bitmap_check.proofs.bitmap.check_rest.Goals.{After-after_code-step, In-To}
 use Rattle.pgs_bitmap_check.proofs.bitmap.check_rest.Goals as goal
 
 pub loop-code-init : goal.loop-code-init

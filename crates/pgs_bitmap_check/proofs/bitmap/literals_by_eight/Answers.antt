@@ -1,9 +1,8 @@
 -- `literals_by_eight` meets its contract. The loop's invariant: the bytes counted so far are nonzero. The measure is what is left of the
 -- data. Assumes nothing.
 use mathlib.Core.Path.{◌∙◌, sym}
-use Prim.Native.Nat.{◌+◌, ◌-◌, ◌≤◌}
+use Prim.Native.Nat.{◌+◌}
 use native.Mathlib.Omega.{arith}
-use Rattle.pgs_run_length.specs.Literals.{Literals}
 use Rattle.pgs_run_length.proofs.LiteralBytes.{literals-none, literals-join, literals-said}
 use Rattle.pgs_bitmap_check.proofs.bitmap.literals_by_eight.Goals as goal
 

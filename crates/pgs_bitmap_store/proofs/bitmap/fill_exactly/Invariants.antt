@@ -1,8 +1,7 @@
 -- `fill_exactly` meets its contract. The loop's invariant: so many cells of the run are stored. The measure is what is left of the run.
 -- Assumes nothing.
 use Prim.Native.Nat.{◌-◌, ◌≤◌}
-use native.Mathlib.Omega.{arith}
-use Rattle.pgs_bitmap_store.proofs.RunFill.{Filling, filling-begins, filling-stores, filling-ends}
+use Rattle.pgs_bitmap_store.proofs.RunFill.{Filling}
 use Rattle.pgs_bitmap_store.proofs.bitmap.fill_exactly.Given as goal
 
 abbrev pub invariant-loop-i : goal.invariant-loop-i

@@ -1,13 +1,10 @@
 -- `store_rle` meets its contract. The loop's invariant: the pixels of the codes before this place are stored. The measure is what is
 -- left of the data. Assumes nothing.
-use mathlib.Core.Path.{◌≡◌, refl, ◌∙◌, ap}
-use Prim.Native.Nat.{ℕ, ◌-◌}
+use mathlib.Core.Path.{refl, ◌∙◌, ap}
+use Prim.Native.Nat.{ℕ}
 use native.Mathlib.Omega.{arith}
-use borrow.Author.Tests.{leb-true}
-use lib.ListN.{length}
 use Rattle.pgs_bitmap_check.specs.Bitmap.{bitmap_of}
 use Rattle.pgs_bitmap_store.specs.Padding.{padded_to}
-use Rattle.pgs_bitmap_store.specs.Progress.{Storing}
 use Rattle.pgs_bitmap_store.proofs.BitmapStores.{storing-start, stored-padded}
 use Rattle.pgs_bitmap_store.proofs.bitmap.store_rle.Goals as goal
 

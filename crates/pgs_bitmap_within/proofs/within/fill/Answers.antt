@@ -2,12 +2,11 @@
 -- Assumes nothing.
 use mathlib.Core.Path.{◌∙◌}
 use mathlib.Core.List.{append-nil}
-use Prim.Native.Nat.{◌-◌, ◌≤◌}
 use native.Mathlib.Nat.{zero-add}
 use native.Mathlib.Omega.{arith}
 use lib.ListN.{length}
 use lib.Seq.{drop-length}
-use Rattle.pgs_bitmap_store.proofs.RunFill.{Filling, filling-begins, filling-stores, filling-ends}
+use Rattle.pgs_bitmap_store.proofs.RunFill.{filling-begins, filling-stores, filling-ends}
 use Rattle.pgs_bitmap_within.proofs.within.fill.Goals as goal
 
 pub loop-i-init : goal.loop-i-init

@@ -1,13 +1,8 @@
 -- `fill` meets its contract. The loop's invariant: so many cells of the run are stored. The measure is what is left of the part.
 -- Assumes nothing.
-use mathlib.Core.Path.{◌∙◌}
-use mathlib.Core.List.{append-nil}
 use Prim.Native.Nat.{◌-◌, ◌≤◌}
-use native.Mathlib.Nat.{zero-add}
-use native.Mathlib.Omega.{arith}
 use lib.ListN.{length}
-use lib.Seq.{drop-length}
-use Rattle.pgs_bitmap_store.proofs.RunFill.{Filling, filling-begins, filling-stores, filling-ends}
+use Rattle.pgs_bitmap_store.proofs.RunFill.{Filling}
 use Rattle.pgs_bitmap_within.proofs.within.fill.Given as goal
 
 abbrev pub invariant-loop-i : goal.invariant-loop-i

@@ -1,8 +1,7 @@
 -- `store_codes` meets its contract. The loop's invariant: the pixels of the codes before this place are stored. The measure is what is
 -- left of the data. Assumes nothing.
-use Prim.Native.Nat.{◌-◌}
 use native.Mathlib.Omega.{arith}
-use Rattle.pgs_bitmap_within.proofs.StoreLaws.{Storing, storing-begins, byte-there, taken-fits, run-stored, all-stored}
+use Rattle.pgs_bitmap_within.proofs.StoreLaws.{storing-begins, byte-there, taken-fits, run-stored, all-stored}
 use Rattle.pgs_bitmap_within.proofs.within.store_codes.Goals as goal
 
 pub overflow_add-end : goal.overflow_add-end

@@ -3,10 +3,10 @@
 use Rattle.pgs_base.proofs.Outcomes.{gave, gave-value, turned_down}
 use Rattle.pgs_calls.proofs.CallLaws.{stays, turns, code-refused, code-accepted}
 use Rattle.pgs_cells_ods.specs.OdsCells.{ods_cells}
-use Rattle.pgs_ods.specs.OdsBody.{ods_outcome, ods_of, ods_list, ods_verdict}
+use Rattle.pgs_ods.specs.OdsBody.{ods_of, ods_list, ods_verdict}
 use Rattle.pgs_ods.specs.declared.ods.Ods.{Ods}
 use Rattle.pgs_records.specs.declared.BodyList.{BodyList}
-use mathlib.Core.Path.{sym, ap, ◌∙◌}
+use mathlib.Core.Path.{ap, ◌∙◌}
 use Rattle.pgs_c_segment.proofs.segments.pgs_parse_ods.Goals as goal
 
 pub returns-in-Refused : goal.returns-in-Refused

@@ -2,7 +2,6 @@ use Rattle.pgs_c_told.specs.Told.{code_by, set_by}
 use Rattle.pgs_writer_base.specs.Answers.{write_outcome}
 use Rattle.pgs_writer_base.specs.declared.head.WriteAnswer.{WriteAnswer}
 use mathlib.Core.Path.{sym, ap, ◌∙◌}
-use borrow.Author.Rules.{rules}
 use Rattle.pgs_c_told.proofs.told.told.Goals as goal
 
 pub returns-in-Refused : goal.returns-in-Refused

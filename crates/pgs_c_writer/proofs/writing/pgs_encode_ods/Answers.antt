@@ -1,10 +1,9 @@
 use Rattle.pgs_c_told.proofs.WriteCalls.{told-call, cells-call, by-cells}
-use Rattle.pgs_cells_ods.specs.OdsCells.{ods_from, ods_cells_fit, ods_numbers_outcome}
+use Rattle.pgs_cells_ods.specs.OdsCells.{ods_from, ods_cells_fit}
 use Rattle.pgs_c_writer.specs.Writing.{ods_cells_writable}
 use Rattle.pgs_encoding.specs.Writable.{writable}
 use Rattle.pgs_ods.specs.declared.ods.Ods.{Ods}
 use Rattle.pgs_writer_base.specs.Kinds.{ods_segment}
-use mathlib.Core.Path.{sym, ap, ◌∙◌}
 use Rattle.pgs_c_writer.proofs.writing.pgs_encode_ods.Goals as goal
 
 pub returns-in-Refused : goal.returns-in-Refused

@@ -1,9 +1,8 @@
 use Rattle.pgs_c_told.proofs.WriteCalls.{told-call, cells-call, by-cells}
-use Rattle.pgs_cells.specs.PcsCells.{pcs_from, pcs_cells_fit, pcs_numbers_outcome}
+use Rattle.pgs_cells.specs.PcsCells.{pcs_from, pcs_cells_fit}
 use Rattle.pgs_c_writer_lists.specs.Lists.{pcs_cells_writable}
 use Rattle.pgs_pcs.specs.declared.pcs.Pcs.{Pcs}
 use Rattle.pgs_writer_base.specs.Kinds.{pcs_segment, pcs_rows_writable}
-use mathlib.Core.Path.{sym, ap, ◌∙◌}
 use Rattle.pgs_c_writer_lists.proofs.lists.pgs_encode_pcs.Goals as goal
 
 pub returns-in-Refused : goal.returns-in-Refused

@@ -1,8 +1,6 @@
-use Rattle.pgs_cards.proofs.FillLaws.{Writing, answer_at, writing, writes-all, never-refused, writes-within, writes-far, goes_on, line-fits, line-put}
-use Rattle.pgs_segment.specs.OneSegment.{segment_outcome}
+use Rattle.pgs_cards.proofs.FillLaws.{answer_at, writing, writes-all, never-refused, writes-within, writes-far, goes_on, line-fits, line-put}
 use Prim.Native.Nat.{◌+◌, ◌-◌}
-use lib.ListN.{length, drop, length-take, length-drop}
-use mathlib.Core.Path.{sym, ap, ◌∙◌}
+use lib.ListN.{drop, length-take, length-drop}
 use native.Mathlib.Omega.{arith}
 use Rattle.pgs_cards.proofs.cards.fill_lines.Goals as goal
 

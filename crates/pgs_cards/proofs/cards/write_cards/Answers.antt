@@ -1,7 +1,5 @@
 use Rattle.pgs_base.proofs.Outcomes.{delivers-refusal}
 use Rattle.pgs_cards.proofs.ReportLaws.{tested-sets, tested-count, place-fits, place-too-far, refused-first}
-use Rattle.pgs_set.specs.Sets.{sets_outcome}
-use mathlib.Core.Path.{sym, ap, ◌∙◌}
 use Rattle.pgs_cards.proofs.cards.write_cards.Goals as goal
 
 pub returns-then-s-gt-PLACE_LIMIT : goal.returns-then-s-gt-PLACE_LIMIT

@@ -1,6 +1,6 @@
 -- `fill_hex` goes from the last digit to the first: the loop keeps `Filling`.
 -- Assumes nothing.
-use Rattle.pgs_cards.proofs.HexLaws.{Filling, filling, fills-on, filled-all}
+use Rattle.pgs_cards.proofs.HexLaws.{filling, fills-on, filled-all}
 use native.Mathlib.Omega.{arith}
 use Rattle.pgs_cards.proofs.line.fill_hex.Goals as goal
 

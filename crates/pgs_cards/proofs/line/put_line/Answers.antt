@@ -1,6 +1,4 @@
 use Rattle.pgs_cards.proofs.LineLaws.{line-written}
-use lib.ListN.{length-set}
-use mathlib.Core.Path.{◌∙◌}
 use native.Mathlib.Omega.{arith}
 use Rattle.pgs_cards.proofs.line.put_line.Goals as goal
 

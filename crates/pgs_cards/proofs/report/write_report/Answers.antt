@@ -1,6 +1,4 @@
 use Rattle.pgs_cards.proofs.ReportLaws.{tested-sets, tested-count, says-too-long, says-refusal, says-cards, text-is}
-use Rattle.pgs_set.specs.Sets.{sets_outcome}
-use mathlib.Core.Path.{sym, ap, ◌∙◌}
 use Rattle.pgs_cards.proofs.report.write_report.Goals as goal
 
 pub returns-then-s-gt-INPUT_LIMIT : goal.returns-then-s-gt-INPUT_LIMIT

@@ -1,7 +1,5 @@
-use mathlib.Core.Path.{sym, ap, ◌∙◌}
 use native.Mathlib.Omega.{arith}
 use Rattle.pgs_cells_ods.proofs.CellLaws.{id-large, version-large, flag-large, dimensions-large, all-fit}
-use Rattle.pgs_cells_ods.specs.OdsCells.{dimensions_outcome}
 use Rattle.pgs_cells_ods.proofs.ods.ods_from.Goals as goal
 
 pub returns-then-cells-gt65535 : goal.returns-then-cells-gt65535

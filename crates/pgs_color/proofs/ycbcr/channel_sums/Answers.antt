@@ -1,6 +1,6 @@
 -- `channel_sums` gives the sums of `sums_of`: the compiler's float literals are the f32 numbers that the definition names.
 -- Assumes nothing.
-use Rattle.std.proofs.Common.{refl, rules}
+use Rattle.std.proofs.Common.{refl}
 use lib.Ieee.{of_bits, of_int}
 use Rattle.pgs_color.proofs.ycbcr.channel_sums.Goals as goal
 

@@ -1,9 +1,8 @@
-use Rattle.pgs_reassembly.proofs.FindLaws.{Finding, finding, finds-here, found_all, finds-on, its-ods, finds-fit, found-refusal, finds-more}
+use Rattle.pgs_reassembly.proofs.FindLaws.{finding, finds-here, found_all, finds-on, its-ods, finds-fit, found-refusal, finds-more}
 use Rattle.pgs_set.proofs.SetLaws.{size-read, read-within}
 use Rattle.pgs_object.specs.Answers.{chains_outcome}
-use Prim.Native.Nat.{◌-◌}
-use lib.ListN.{length, drop}
-use mathlib.Core.Path.{ap, ◌∙◌}
+use lib.ListN.{drop}
+use mathlib.Core.Path.{ap}
 use native.Mathlib.Omega.{arith}
 use Rattle.pgs_object.proofs.chain.find_chains.Goals as goal
 

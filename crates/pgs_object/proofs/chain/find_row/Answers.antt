@@ -1,8 +1,4 @@
 use Rattle.pgs_reassembly.proofs.ChainLaws.{row_here, row_on, row-none}
-use Rattle.pgs_reassembly.specs.Tables.{row_with}
-use Prim.Native.Nat.{◌+◌, ◌-◌, ◌≤◌}
-use lib.ListN.{length, drop}
-use mathlib.Core.Path.{◌≡◌}
 use native.Mathlib.Omega.{arith}
 use Rattle.pgs_object.proofs.chain.find_row.Goals as goal
 

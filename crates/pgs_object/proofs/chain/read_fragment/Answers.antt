@@ -1,5 +1,4 @@
 use Rattle.pgs_base.specs.Outcome.{accepted}
-use Rattle.pgs_ods.specs.OdsBody.{ods_outcome}
 use Rattle.pgs_segment.specs.OneSegment.{used_by}
 use Rattle.pgs_stream.specs.Stream.{step_verdict}
 use Rattle.pgs_records.specs.declared.BodyList.{BodyList}
@@ -8,7 +7,7 @@ use Rattle.pgs_set.proofs.WalkLaws.{within-here}
 use Prim.Native.Nat.{ℕ, ◌+◌, ◌≤◌}
 use lib.ListN.{length, drop}
 use mathlib.Core.List.{List}
-use mathlib.Core.Path.{◌≡◌, sym, ap, ◌∙◌}
+use mathlib.Core.Path.{◌≡◌, ap}
 use native.Mathlib.Omega.{arith}
 use Rattle.pgs_object.proofs.chain.read_fragment.Goals as goal
 

@@ -1,7 +1,6 @@
-use Rattle.pgs_reassembly.proofs.EachLaws.{Testing, testing, tests-all, tests-within, tests-open, tests-refusal, tests-on}
+use Rattle.pgs_reassembly.proofs.EachLaws.{testing, tests-all, tests-within, tests-open, tests-refusal, tests-on}
 use Rattle.pgs_object.specs.Answers.{found_outcome}
-use Prim.Native.Nat.{◌-◌}
-use mathlib.Core.Path.{ap, ◌∙◌}
+use mathlib.Core.Path.{ap}
 use native.Mathlib.Omega.{arith}
 use Rattle.pgs_object.proofs.finding.check_each.Goals as goal
 

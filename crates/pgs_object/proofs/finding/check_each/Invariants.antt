@@ -1,8 +1,5 @@
-use Rattle.pgs_reassembly.proofs.EachLaws.{Testing, testing, tests-all, tests-within, tests-open, tests-refusal, tests-on}
-use Rattle.pgs_object.specs.Answers.{found_outcome}
+use Rattle.pgs_reassembly.proofs.EachLaws.{Testing}
 use Prim.Native.Nat.{◌-◌}
-use mathlib.Core.Path.{ap, ◌∙◌}
-use native.Mathlib.Omega.{arith}
 use Rattle.pgs_object.proofs.finding.check_each.Given as goal
 
 abbrev pub invariant-loop-i : goal.invariant-loop-i

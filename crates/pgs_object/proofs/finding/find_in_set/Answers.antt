@@ -1,6 +1,6 @@
 use Rattle.pgs_reassembly.proofs.ObjectLaws.{found_none, found_within, found-length, found-small, found-refused, found_all}
-use Rattle.pgs_object.specs.Answers.{chains_outcome, joined_outcome}
-use mathlib.Core.Path.{sym, ap, ◌∙◌}
+use Rattle.pgs_object.specs.Answers.{chains_outcome}
+use mathlib.Core.Path.{ap}
 use native.Mathlib.Omega.{arith}
 use Rattle.pgs_object.proofs.finding.find_in_set.Goals as goal
 

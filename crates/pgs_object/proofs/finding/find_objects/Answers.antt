@@ -4,7 +4,7 @@ use Rattle.pgs_set.proofs.NumberLaws.{stands-open}
 use Rattle.pgs_set.specs.Sets.{set_number, set_verdict, set_row}
 use Rattle.pgs_set.specs.Walks.{set_outcome}
 use lib.ListN.{length}
-use mathlib.Core.Path.{sym, ap, ◌∙◌}
+use mathlib.Core.Path.{ap}
 use native.Mathlib.Omega.{arith}
 use Rattle.pgs_object.proofs.finding.find_objects.Goals as goal
 

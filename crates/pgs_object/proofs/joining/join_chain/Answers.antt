@@ -1,7 +1,5 @@
-use Rattle.pgs_reassembly.proofs.JoinLaws.{Joining, joining, joins-here, joins-ods, joins-from, joins-to, joins-on, joins-other, joins-past, joined-all}
-use Rattle.pgs_set.proofs.SetLaws.{size-read, read-within}
-use Prim.Native.Nat.{◌+◌, ◌-◌}
-use lib.ListN.{length, drop, length-take, length-drop}
+use Rattle.pgs_reassembly.proofs.JoinLaws.{joining, joins-here, joins-from, joins-to, joins-on, joins-other, joins-past, joined-all}
+use Rattle.pgs_set.proofs.SetLaws.{read-within}
 use native.Mathlib.Omega.{arith}
 use Rattle.pgs_object.proofs.joining.join_chain.Goals as goal
 

@@ -1,6 +1,4 @@
-use Rattle.pgs_reassembly.proofs.JoinLaws.{Placing, placing, places-none, places-within, places-part, places-on, placed-all}
-use Prim.Native.Nat.{◌-◌}
-use lib.ListN.{length}
+use Rattle.pgs_reassembly.proofs.JoinLaws.{placing, places-none, places-within, places-part, places-on, placed-all}
 use native.Mathlib.Omega.{arith}
 use Rattle.pgs_object.proofs.joining.join_objects.Goals as goal
 

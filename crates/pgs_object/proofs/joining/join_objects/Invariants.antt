@@ -1,7 +1,6 @@
-use Rattle.pgs_reassembly.proofs.JoinLaws.{Placing, placing, places-none, places-within, places-part, places-on, placed-all}
+use Rattle.pgs_reassembly.proofs.JoinLaws.{Placing}
 use Prim.Native.Nat.{◌-◌}
 use lib.ListN.{length}
-use native.Mathlib.Omega.{arith}
 use Rattle.pgs_object.proofs.joining.join_objects.Given as goal
 
 abbrev pub invariant-loop-i : goal.invariant-loop-i

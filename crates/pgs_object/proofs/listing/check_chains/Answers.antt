@@ -1,8 +1,6 @@
-use Rattle.pgs_reassembly.proofs.ListingLaws.{Checking, checking, checked-open, checked-small, checked-unequal, checks-on, checked, joined-total}
+use Rattle.pgs_reassembly.proofs.ListingLaws.{checking, checked-open, checked-small, checked-unequal, checks-on, checked, joined-total}
 use Rattle.pgs_base.proofs.Outcomes.{gives_as, refuses-as}
 use Rattle.pgs_reassembly.specs.Tables.{joined_in}
-use Prim.Native.Nat.{◌-◌}
-use lib.ListN.{length}
 use native.Mathlib.Omega.{arith}
 use Rattle.pgs_object.proofs.listing.check_chains.Goals as goal
 

@@ -1,9 +1,6 @@
 -- `list_objects` stores a record for each row: the loop keeps `Listing`.
 -- Assumes nothing.
-use Rattle.pgs_reassembly.proofs.ListingLaws.{Listing, listing, lists-on, listed, joined-total}
-use borrow.Author.Rules.{rules, scaled_Fits}
-use Prim.Native.Nat.{◌-◌}
-use lib.ListN.{length}
+use Rattle.pgs_reassembly.proofs.ListingLaws.{listing, lists-on, listed, joined-total}
 use native.Mathlib.Omega.{arith}
 use Rattle.pgs_object.proofs.listing.list_objects.Goals as goal
 

@@ -1,10 +1,8 @@
 -- `list_objects` stores a record for each row: the loop keeps `Listing`.
 -- Assumes nothing.
-use Rattle.pgs_reassembly.proofs.ListingLaws.{Listing, listing, lists-on, listed, joined-total}
-use borrow.Author.Rules.{rules, scaled_Fits}
+use Rattle.pgs_reassembly.proofs.ListingLaws.{Listing}
 use Prim.Native.Nat.{◌-◌}
 use lib.ListN.{length}
-use native.Mathlib.Omega.{arith}
 use Rattle.pgs_object.proofs.listing.list_objects.Given as goal
 
 abbrev pub invariant-loop-i : goal.invariant-loop-i

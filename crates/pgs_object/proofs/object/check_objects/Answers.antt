@@ -1,7 +1,6 @@
 use Rattle.pgs_base.proofs.Outcomes.{gave, gave-value}
 use Rattle.pgs_reassembly.proofs.EachLaws.{sets-refused, sets-tested}
-use Rattle.pgs_set.specs.Sets.{sets_verdict, set_count, sets_outcome}
-use mathlib.Core.Path.{sym, ap, ◌∙◌}
+use Rattle.pgs_set.specs.Sets.{sets_verdict, set_count}
 use Rattle.pgs_object.proofs.object.check_objects.Goals as goal
 
 pub check_each-requires : goal.check_each-requires

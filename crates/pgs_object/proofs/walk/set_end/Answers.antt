@@ -1,6 +1,4 @@
-use Rattle.pgs_set.proofs.SetLaws.{read-within, Passing, passing, inside-here, passes-read, passed-read}
-use Prim.Native.Nat.{◌-◌}
-use lib.ListN.{length}
+use Rattle.pgs_set.proofs.SetLaws.{read-within, passing, inside-here, passes-read, passed-read}
 use native.Mathlib.Omega.{arith}
 use Rattle.pgs_object.proofs.walk.set_end.Goals as goal
 

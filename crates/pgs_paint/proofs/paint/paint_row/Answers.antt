@@ -1,11 +1,8 @@
 -- `paint_row` meets its contract. The loop's invariant: so many colours stand at the front of the row. Assumes nothing.
-use mathlib.Core.Path.{◌≡◌, refl}
-use mathlib.Core.List.{◌++◌}
-use Prim.Native.Nat.{◌*◌, ◌-◌, ◌≤◌}
+use mathlib.Core.Path.{refl}
 use native.Mathlib.Omega.{arith}
-use lib.ListN.{length, drop, length-set}
-use Rattle.pgs_plane.specs.Strips.{strip}
-use Rattle.pgs_paint.proofs.RowLaws.{colors, row-begins, pixel-stored, row-stored}
+use lib.ListN.{length-set}
+use Rattle.pgs_paint.proofs.RowLaws.{row-begins, pixel-stored, row-stored}
 use Rattle.pgs_paint.proofs.paint.paint_row.Goals as goal
 
 pub loop-i-init : goal.loop-i-init

@@ -1,11 +1,10 @@
 -- `paint_row` meets its contract. The loop's invariant: so many colours stand at the front of the row. Assumes nothing.
-use mathlib.Core.Path.{◌≡◌, refl}
+use mathlib.Core.Path.{◌≡◌}
 use mathlib.Core.List.{◌++◌}
 use Prim.Native.Nat.{◌*◌, ◌-◌, ◌≤◌}
-use native.Mathlib.Omega.{arith}
-use lib.ListN.{length, drop, length-set}
+use lib.ListN.{length, drop}
 use Rattle.pgs_plane.specs.Strips.{strip}
-use Rattle.pgs_paint.proofs.RowLaws.{colors, row-begins, pixel-stored, row-stored}
+use Rattle.pgs_paint.proofs.RowLaws.{colors}
 use Rattle.pgs_paint.proofs.paint.paint_row.Given as goal
 
 abbrev pub invariant-loop-i : goal.invariant-loop-i

@@ -1,13 +1,9 @@
 -- `paint_rows` meets its contract. The loop's invariant: the layer is over the first rows of the plane. Assumes nothing.
-use mathlib.Core.Path.{◌≡◌, refl, ◌∙◌}
-use Prim.Native.Nat.{◌+◌, ◌*◌, ◌-◌, ◌≤◌}
+use mathlib.Core.Path.{refl, ◌∙◌}
+use Prim.Native.Nat.{◌+◌, ◌*◌, ◌-◌}
 use native.Mathlib.Omega.{arith}
-use lib.ListN.{length}
 use borrow.Rule.Slice.PartMut.{same_len_mid}
-use Rattle.pgs_plane.specs.Placing.{image_of, table_color}
-use Rattle.pgs_plane.specs.Pictures.{Layer}
-use Rattle.pgs_paint.specs.Clipping.{Exactly}
-use Rattle.pgs_paint.proofs.PlaneLaws.{first_rows, Room, room, row_room, row_laid, rows-begin, rows_end}
+use Rattle.pgs_paint.proofs.PlaneLaws.{Room, room, row_room, row_laid, rows-begin, rows_end}
 use Rattle.pgs_paint.proofs.paint.paint_rows.Goals.{In-loop-j}
 use Rattle.pgs_paint.proofs.paint.paint_rows.Goals as goal
 

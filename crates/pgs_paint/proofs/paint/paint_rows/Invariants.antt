@@ -1,13 +1,11 @@
 -- `paint_rows` meets its contract. The loop's invariant: the layer is over the first rows of the plane. Assumes nothing.
-use mathlib.Core.Path.{◌≡◌, refl, ◌∙◌}
-use Prim.Native.Nat.{◌+◌, ◌*◌, ◌-◌, ◌≤◌}
-use native.Mathlib.Omega.{arith}
+use mathlib.Core.Path.{◌≡◌}
+use Prim.Native.Nat.{◌+◌, ◌-◌, ◌≤◌}
 use lib.ListN.{length}
-use borrow.Rule.Slice.PartMut.{same_len_mid}
 use Rattle.pgs_plane.specs.Placing.{image_of, table_color}
 use Rattle.pgs_plane.specs.Pictures.{Layer}
 use Rattle.pgs_paint.specs.Clipping.{Exactly}
-use Rattle.pgs_paint.proofs.PlaneLaws.{first_rows, Room, room, row_room, row_laid, rows-begin, rows_end}
+use Rattle.pgs_paint.proofs.PlaneLaws.{first_rows}
 use Rattle.pgs_paint.proofs.paint.paint_rows.Given as goal
 
 abbrev pub invariant-loop-j : goal.invariant-loop-j

@@ -1,10 +1,10 @@
 -- `clear` stores 0 in the first 1,024 bytes: after i stores the table is i zeros and what was behind them.
 -- Assumes nothing.
-use Prim.Native.Nat.{ℕ, ◌≤◌, ◌-◌}
-use mathlib.Core.Path.{◌≡◌, refl, ap, ◌∙◌}
-use mathlib.Core.List.{List, ◌++◌}
+use Prim.Native.Nat.{ℕ}
+use mathlib.Core.Path.{refl, ap, ◌∙◌}
+use mathlib.Core.List.{List}
 use native.Mathlib.Omega.{arith}
-use lib.ListN.{length, drop, set, replicate, length-set}
+use lib.ListN.{set, length-set}
 use borrow.Author.Fill.{fill_more}
 use Rattle.pgs_palette.proofs.Calls.{short, done}
 use Rattle.pgs_palette.proofs.Laying.{cleared-end}

@@ -1,13 +1,9 @@
 -- `clear` stores 0 in the first 1,024 bytes: after i stores the table is i zeros and what was behind them.
 -- Assumes nothing.
-use Prim.Native.Nat.{ℕ, ◌≤◌, ◌-◌}
-use mathlib.Core.Path.{◌≡◌, refl, ap, ◌∙◌}
-use mathlib.Core.List.{List, ◌++◌}
-use native.Mathlib.Omega.{arith}
-use lib.ListN.{length, drop, set, replicate, length-set}
-use borrow.Author.Fill.{fill_more}
-use Rattle.pgs_palette.proofs.Calls.{short, done}
-use Rattle.pgs_palette.proofs.Laying.{cleared-end}
+use Prim.Native.Nat.{◌≤◌, ◌-◌}
+use mathlib.Core.Path.{◌≡◌}
+use mathlib.Core.List.{◌++◌}
+use lib.ListN.{length, drop, replicate}
 use Rattle.pgs_palette.proofs.palette.clear.Given as goal
 
 abbrev pub invariant-loop-i : goal.invariant-loop-i

@@ -1,10 +1,10 @@
 -- `lay` lays the entries one after the other: the entries from k on, laid over the table as it is, give what all of them give.
 -- Assumes nothing.
-use Prim.Native.Nat.{ℕ, ◌≤◌, ◌+◌, ◌-◌}
-use mathlib.Core.Path.{◌≡◌, refl, ap, ◌∙◌}
+use Prim.Native.Nat.{ℕ, ◌+◌}
+use mathlib.Core.Path.{refl, ap, ◌∙◌}
 use mathlib.Core.List.{List, map}
 use native.Mathlib.Omega.{arith}
-use lib.ListN.{length, drop}
+use lib.ListN.{drop}
 use Rattle.pgs_color.specs.Bytes.{rgb_of}
 use Rattle.pgs_palette.specs.Palette.{entry_of}
 use Rattle.pgs_palette.specs.Table.{laid}

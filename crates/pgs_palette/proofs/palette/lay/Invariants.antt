@@ -1,14 +1,12 @@
 -- `lay` lays the entries one after the other: the entries from k on, laid over the table as it is, give what all of them give.
 -- Assumes nothing.
-use Prim.Native.Nat.{ℕ, ◌≤◌, ◌+◌, ◌-◌}
-use mathlib.Core.Path.{◌≡◌, refl, ap, ◌∙◌}
-use mathlib.Core.List.{List, map}
-use native.Mathlib.Omega.{arith}
+use Prim.Native.Nat.{◌≤◌, ◌-◌}
+use mathlib.Core.Path.{◌≡◌}
+use mathlib.Core.List.{map}
 use lib.ListN.{length, drop}
 use Rattle.pgs_color.specs.Bytes.{rgb_of}
 use Rattle.pgs_palette.specs.Palette.{entry_of}
 use Rattle.pgs_palette.specs.Table.{laid}
-use Rattle.pgs_palette.proofs.Laying.{laid_next, laid_end}
 use Rattle.pgs_palette.proofs.palette.lay.Given as goal
 
 abbrev pub invariant-loop-k : goal.invariant-loop-k

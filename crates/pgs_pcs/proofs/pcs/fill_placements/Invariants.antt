@@ -1,15 +1,11 @@
 -- `fill_placements` stores the placements from the list's front: the loop keeps `Filling`.
 -- Assumes nothing.
 use Prim.Native.Nat.{ℕ, ◌-◌}
-use Rattle.pgs_base.proofs.Lists.{to_end}
-use Rattle.pgs_records.proofs.RecordLaws.{Filling, filling, next_fits, turn, stored-rows}
+use Rattle.pgs_records.proofs.RecordLaws.{Filling}
 use Rattle.pgs_pcs.specs.PcsBody.{placement_of, placement_size, placement_row}
 use Rattle.pgs_records.specs.Records.{records}
-use borrow.Author.Rules.{scaled_Fits}
-use lib.ListN.{length, drop}
+use lib.ListN.{drop}
 use mathlib.Core.List.{List}
-use mathlib.Core.Path.{ap, ◌∙◌}
-use native.Mathlib.Omega.{arith}
 use Rattle.pgs_pcs.proofs.pcs.fill_placements.Given as goal
 
 -- a placement as it is stored

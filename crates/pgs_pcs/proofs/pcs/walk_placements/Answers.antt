@@ -2,7 +2,7 @@
 -- Assumes nothing.
 use Rattle.pgs_base.proofs.Lists.{to_end}
 use Rattle.pgs_pcs.proofs.PcsLaws.{size-least, cut-placement, whole-placements}
-use Rattle.pgs_records.proofs.RecordLaws.{Walking, walking, walk-on, walk-cut, walked_all, walked-size}
+use Rattle.pgs_records.proofs.RecordLaws.{walking, walk-on, walk-cut, walked_all, walked-size}
 use Rattle.pgs_pcs.specs.PcsBody.{placement_size}
 use lib.ListN.{drop}
 use mathlib.Core.Path.{ap, ◌∙◌}

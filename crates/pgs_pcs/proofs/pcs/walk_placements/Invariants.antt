@@ -1,12 +1,7 @@
 -- `walk_placements` passes over the placements: the loop keeps `Walking`.
 -- Assumes nothing.
-use Rattle.pgs_base.proofs.Lists.{to_end}
-use Rattle.pgs_pcs.proofs.PcsLaws.{size-least, cut-placement, whole-placements}
-use Rattle.pgs_records.proofs.RecordLaws.{Walking, walking, walk-on, walk-cut, walked_all, walked-size}
+use Rattle.pgs_records.proofs.RecordLaws.{Walking}
 use Rattle.pgs_pcs.specs.PcsBody.{placement_size}
-use lib.ListN.{drop}
-use mathlib.Core.Path.{ap, ◌∙◌}
-use native.Mathlib.Omega.{arith}
 use Rattle.pgs_pcs.proofs.pcs.walk_placements.Given as goal
 
 abbrev pub invariant-loop-left : goal.invariant-loop-left

@@ -1,13 +1,9 @@
 -- `fill_entries` stores the entries from the list's front: the loop keeps `Filling`.
 -- Assumes nothing.
-use Prim.Native.Nat.{ℕ, ◌-◌}
 use Rattle.pgs_base.proofs.Lists.{to_end}
-use Rattle.pgs_records.proofs.RecordLaws.{Filling, filling, next_fits, turn, stored-rows}
+use Rattle.pgs_records.proofs.RecordLaws.{filling, next_fits, turn, stored-rows}
 use Rattle.pgs_pds.specs.PdsBody.{entry_of, entry_size, entry_row}
-use Rattle.pgs_records.specs.Records.{records}
-use borrow.Author.Rules.{scaled_Fits}
-use lib.ListN.{length, drop, length-drop}
-use mathlib.Core.List.{List}
+use lib.ListN.{length-drop}
 use mathlib.Core.Path.{ap, ◌∙◌}
 use native.Mathlib.Omega.{arith}
 use Rattle.pgs_pds.proofs.pds.fill_entries.Invariants.{row}

@@ -1,15 +1,11 @@
 -- `fill_entries` stores the entries from the list's front: the loop keeps `Filling`.
 -- Assumes nothing.
 use Prim.Native.Nat.{ℕ, ◌-◌}
-use Rattle.pgs_base.proofs.Lists.{to_end}
-use Rattle.pgs_records.proofs.RecordLaws.{Filling, filling, next_fits, turn, stored-rows}
+use Rattle.pgs_records.proofs.RecordLaws.{Filling}
 use Rattle.pgs_pds.specs.PdsBody.{entry_of, entry_size, entry_row}
 use Rattle.pgs_records.specs.Records.{records}
-use borrow.Author.Rules.{scaled_Fits}
-use lib.ListN.{length, drop, length-drop}
+use lib.ListN.{drop}
 use mathlib.Core.List.{List}
-use mathlib.Core.Path.{ap, ◌∙◌}
-use native.Mathlib.Omega.{arith}
 use Rattle.pgs_pds.proofs.pds.fill_entries.Given as goal
 
 -- an entry as it is stored

@@ -1,9 +1,9 @@
 -- `clear_plane` stores 0 in each byte of the plane: after i stores it is i zeros and what was behind them. Assumes nothing.
-use Prim.Native.Nat.{◌*◌, ◌≤◌, ◌-◌}
-use mathlib.Core.Path.{◌≡◌, refl, ap, ◌∙◌}
-use mathlib.Core.List.{List, ◌++◌}
+use Prim.Native.Nat.{◌*◌}
+use mathlib.Core.Path.{refl, ap, ◌∙◌}
+use mathlib.Core.List.{List}
 use native.Mathlib.Omega.{arith}
-use lib.ListN.{length, drop, set, replicate, length-set}
+use lib.ListN.{set, length-set}
 use borrow.Author.Tests.{le-leb, lt-leb}
 use borrow.Author.Fill.{fill_more}
 use Rattle.pgs_plane.proofs.AreaLaws.{area-fits}

@@ -1,13 +1,8 @@
 -- `clear_plane` stores 0 in each byte of the plane: after i stores it is i zeros and what was behind them. Assumes nothing.
-use Prim.Native.Nat.{◌*◌, ◌≤◌, ◌-◌}
-use mathlib.Core.Path.{◌≡◌, refl, ap, ◌∙◌}
-use mathlib.Core.List.{List, ◌++◌}
-use native.Mathlib.Omega.{arith}
-use lib.ListN.{length, drop, set, replicate, length-set}
-use borrow.Author.Tests.{le-leb, lt-leb}
-use borrow.Author.Fill.{fill_more}
-use Rattle.pgs_plane.proofs.AreaLaws.{area-fits}
-use Rattle.pgs_plane.proofs.CallLaws.{refuses, changes, cleared-end}
+use Prim.Native.Nat.{◌≤◌, ◌-◌}
+use mathlib.Core.Path.{◌≡◌}
+use mathlib.Core.List.{◌++◌}
+use lib.ListN.{length, drop, replicate}
 use Rattle.pgs_plane.proofs.plane.clear_plane.Given as goal
 
 abbrev pub invariant-loop-i : goal.invariant-loop-i

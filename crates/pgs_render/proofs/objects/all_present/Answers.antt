@@ -1,8 +1,5 @@
-use Prim.Native.Nat.{◌-◌}
 use mathlib.Core.Path.{refl}
-use native.Mathlib.Omega.{arith}
-use lib.ListN.{length}
-use Rattle.pgs_rendering.proofs.RowLaws.{Presenting, presenting, presents-on, presents-not, presents-all}
+use Rattle.pgs_rendering.proofs.RowLaws.{presenting, presents-on, presents-not, presents-all}
 use Rattle.pgs_render.proofs.objects.all_present.Goals as goal
 
 pub loop-i-init : goal.loop-i-init

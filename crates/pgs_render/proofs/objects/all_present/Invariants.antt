@@ -1,8 +1,6 @@
 use Prim.Native.Nat.{◌-◌}
-use mathlib.Core.Path.{refl}
-use native.Mathlib.Omega.{arith}
 use lib.ListN.{length}
-use Rattle.pgs_rendering.proofs.RowLaws.{Presenting, presenting, presents-on, presents-not, presents-all}
+use Rattle.pgs_rendering.proofs.RowLaws.{Presenting}
 use Rattle.pgs_render.proofs.objects.all_present.Given as goal
 
 abbrev pub invariant-loop-i : goal.invariant-loop-i

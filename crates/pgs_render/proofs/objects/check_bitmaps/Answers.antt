@@ -1,9 +1,6 @@
-use Prim.Native.Nat.{◌-◌}
-use mathlib.Core.Path.{refl, sym, ap, ◌∙◌}
+use mathlib.Core.Path.{refl}
 use native.Mathlib.Omega.{arith}
-use lib.ListN.{length}
-use Rattle.pgs_bitmap_check.specs.Outcomes.{outcome}
-use Rattle.pgs_rendering.proofs.RowLaws.{Reading, reading, reads-not, reads_on, reads_all}
+use Rattle.pgs_rendering.proofs.RowLaws.{reading, reads-not, reads_on, reads_all}
 use Rattle.pgs_render.proofs.objects.check_bitmaps.Goals as goal
 
 pub loop-i-init : goal.loop-i-init

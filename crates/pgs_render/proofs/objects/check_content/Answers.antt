@@ -1,6 +1,5 @@
 use mathlib.Core.Path.{sym, ap, ◌∙◌}
 use Rattle.pgs_base.specs.Outcome.{unless}
-use Rattle.pgs_bitmap_check.specs.Outcomes.{outcome}
 use Rattle.pgs_rendering.specs.Rows.{all_present}
 use Rattle.pgs_rendering.proofs.RowLaws.{content-refused, content-tested}
 use Rattle.pgs_render.proofs.objects.check_content.Goals as goal

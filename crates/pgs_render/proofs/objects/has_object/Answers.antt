@@ -1,7 +1,4 @@
-use Prim.Native.Nat.{◌-◌}
-use native.Mathlib.Omega.{arith}
-use lib.ListN.{length}
-use Rattle.pgs_rendering.proofs.RowLaws.{Seeking, seeking, seeks-here, seeks-on, seeks-none}
+use Rattle.pgs_rendering.proofs.RowLaws.{seeking, seeks-here, seeks-on, seeks-none}
 use Rattle.pgs_render.proofs.objects.has_object.Goals as goal
 
 pub loop-i-init : goal.loop-i-init

@@ -1,7 +1,6 @@
 use Prim.Native.Nat.{◌-◌}
-use native.Mathlib.Omega.{arith}
 use lib.ListN.{length}
-use Rattle.pgs_rendering.proofs.RowLaws.{Seeking, seeking, seeks-here, seeks-on, seeks-none}
+use Rattle.pgs_rendering.proofs.RowLaws.{Seeking}
 use Rattle.pgs_render.proofs.objects.has_object.Given as goal
 
 abbrev pub invariant-loop-i : goal.invariant-loop-i

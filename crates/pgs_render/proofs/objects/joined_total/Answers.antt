@@ -1,7 +1,5 @@
-use Prim.Native.Nat.{◌-◌}
 use native.Mathlib.Omega.{arith}
-use lib.ListN.{length}
-use Rattle.pgs_rendering.proofs.RowLaws.{Totaling, totaling, totals-within, totals-on, totaled}
+use Rattle.pgs_rendering.proofs.RowLaws.{totaling, totals-within, totals-on, totaled}
 use Rattle.pgs_render.proofs.objects.joined_total.Goals as goal
 
 pub loop-i-init : goal.loop-i-init

@@ -1,7 +1,6 @@
 use Prim.Native.Nat.{◌-◌}
-use native.Mathlib.Omega.{arith}
 use lib.ListN.{length}
-use Rattle.pgs_rendering.proofs.RowLaws.{Totaling, totaling, totals-within, totals-on, totaled}
+use Rattle.pgs_rendering.proofs.RowLaws.{Totaling}
 use Rattle.pgs_render.proofs.objects.joined_total.Given as goal
 
 abbrev pub invariant-loop-i : goal.invariant-loop-i

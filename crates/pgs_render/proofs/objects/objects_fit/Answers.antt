@@ -1,8 +1,6 @@
-use Prim.Native.Nat.{◌-◌}
 use mathlib.Core.Path.{refl}
 use native.Mathlib.Omega.{arith}
-use lib.ListN.{length}
-use Rattle.pgs_rendering.proofs.RowLaws.{Fitting, fitting, fits_not, fits_on, fits_all}
+use Rattle.pgs_rendering.proofs.RowLaws.{fitting, fits_not, fits_on, fits_all}
 use Rattle.pgs_bitmap.proofs.DecodeAnswers.{area-fits}
 use Rattle.pgs_render.proofs.objects.objects_fit.Goals as goal
 

@@ -1,9 +1,6 @@
 use Prim.Native.Nat.{◌-◌}
-use mathlib.Core.Path.{refl}
-use native.Mathlib.Omega.{arith}
 use lib.ListN.{length}
-use Rattle.pgs_rendering.proofs.RowLaws.{Fitting, fitting, fits_not, fits_on, fits_all}
-use Rattle.pgs_bitmap.proofs.DecodeAnswers.{area-fits}
+use Rattle.pgs_rendering.proofs.RowLaws.{Fitting}
 use Rattle.pgs_render.proofs.objects.objects_fit.Given as goal
 
 abbrev pub invariant-loop-i : goal.invariant-loop-i

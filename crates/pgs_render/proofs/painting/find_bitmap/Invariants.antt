@@ -1,8 +1,6 @@
 use Prim.Native.Nat.{◌-◌}
-use native.Mathlib.Omega.{arith}
 use lib.ListN.{length}
-use Rattle.pgs_bitmap.proofs.DecodeAnswers.{area-fits}
-use Rattle.pgs_rendering.proofs.PaintLaws.{Seeing, seeing, sees-here, sees-within, sees-on, sees-none}
+use Rattle.pgs_rendering.proofs.PaintLaws.{Seeing}
 use Rattle.pgs_render.proofs.painting.find_bitmap.Given as goal
 
 abbrev pub invariant-loop-i : goal.invariant-loop-i

@@ -1,10 +1,10 @@
 -- `paint_placements` paints one after another: the loop keeps `Painting`.
 -- Assumes nothing.
 use mathlib.Core.List.{[]}
-use Prim.Native.Nat.{◌-◌, ◌*◌}
+use Prim.Native.Nat.{◌*◌}
 use native.Mathlib.Omega.{arith}
-use lib.ListN.{length, get_or}
-use Rattle.pgs_rendering.proofs.PaintLaws.{Painting, painting, paints-within, paints-on, painted-all, lent-part}
+use lib.ListN.{get_or}
+use Rattle.pgs_rendering.proofs.PaintLaws.{painting, paints-within, paints-on, painted-all, lent-part}
 use Rattle.pgs_render.proofs.painting.paint_placements.Goals as goal
 
 pub loop-i-init : goal.loop-i-init

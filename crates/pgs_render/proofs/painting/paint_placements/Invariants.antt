@@ -1,10 +1,8 @@
 -- `paint_placements` paints one after another: the loop keeps `Painting`.
 -- Assumes nothing.
-use mathlib.Core.List.{[]}
-use Prim.Native.Nat.{◌-◌, ◌*◌}
-use native.Mathlib.Omega.{arith}
-use lib.ListN.{length, get_or}
-use Rattle.pgs_rendering.proofs.PaintLaws.{Painting, painting, paints-within, paints-on, painted-all, lent-part}
+use Prim.Native.Nat.{◌-◌}
+use lib.ListN.{length}
+use Rattle.pgs_rendering.proofs.PaintLaws.{Painting}
 use Rattle.pgs_render.proofs.painting.paint_placements.Given as goal
 
 abbrev pub invariant-loop-i : goal.invariant-loop-i

@@ -11,7 +11,7 @@ use lib.ListN.{length}
 use Rattle.pgs_base.proofs.Bytes.{num-byte}
 use Rattle.pgs_pds.proofs.PdsLaws.{has-numbers}
 use Rattle.pgs_color.specs.Bytes.{rgb_of}
-use Rattle.pgs_rendering.proofs.PaletteLaws.{Laying, laying, lays-within, lays-call, laid-all}
+use Rattle.pgs_rendering.proofs.PaletteLaws.{laying, lays-within, lays-call, laid-all}
 use Rattle.pgs_render.proofs.palette.lay_palette.Goals as goal
 
 pub bounds-body-0 : goal.bounds-body-0

@@ -1,6 +1,4 @@
-use mathlib.Core.Path.{sym, ap, ◌∙◌}
 use native.Mathlib.Omega.{arith}
-use Rattle.pgs_segment.specs.Header.{header_outcome}
 use Rattle.pgs_rendering.proofs.OpeningLaws.{head-there, found_within, found-opened, found-composed}
 use Rattle.pgs_stream.proofs.StreamLaws.{head_of}
 use Rattle.pgs_render.proofs.render.render_found.Goals as goal

@@ -1,7 +1,5 @@
-use Prim.Native.Nat.{◌-◌}
 use native.Mathlib.Omega.{arith}
-use lib.ListN.{length}
-use Rattle.pgs_rendering.proofs.StoreLaws.{Storing, storing, stores-within, stores_one, stores-on, stored-all}
+use Rattle.pgs_rendering.proofs.StoreLaws.{storing, stores-within, stores_one, stores-on, stored-all}
 use Rattle.pgs_render.proofs.storing.store_bitmaps.Goals as goal
 
 pub loop-i-init : goal.loop-i-init

@@ -1,7 +1,6 @@
 use Prim.Native.Nat.{◌-◌}
-use native.Mathlib.Omega.{arith}
 use lib.ListN.{length}
-use Rattle.pgs_rendering.proofs.StoreLaws.{Storing, storing, stores-within, stores_one, stores-on, stored-all}
+use Rattle.pgs_rendering.proofs.StoreLaws.{Storing}
 use Rattle.pgs_render.proofs.storing.store_bitmaps.Given as goal
 
 abbrev pub invariant-loop-i : goal.invariant-loop-i

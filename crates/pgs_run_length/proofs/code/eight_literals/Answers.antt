@@ -1,7 +1,6 @@
 -- `eight_literals` meets its contract. The loop's invariant: the flag says whether all bytes so far are nonzero. The measure is what is
 -- left of the eight. Assumes nothing.
-use mathlib.Core.Path.{◌≡◌, refl, ◌∙◌, ap}
-use Prim.Native.Nat.{◌-◌, ◌≤◌}
+use mathlib.Core.Path.{refl, ◌∙◌, ap}
 use native.Mathlib.Omega.{arith}
 use Rattle.pgs_run_length.specs.Literals.{literals}
 use Rattle.pgs_run_length.proofs.LiteralBytes.{literals-tested, literals-missing}

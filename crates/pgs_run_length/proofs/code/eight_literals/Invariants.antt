@@ -1,10 +1,8 @@
 -- `eight_literals` meets its contract. The loop's invariant: the flag says whether all bytes so far are nonzero. The measure is what is
 -- left of the eight. Assumes nothing.
-use mathlib.Core.Path.{◌≡◌, refl, ◌∙◌, ap}
+use mathlib.Core.Path.{◌≡◌}
 use Prim.Native.Nat.{◌-◌, ◌≤◌}
-use native.Mathlib.Omega.{arith}
 use Rattle.pgs_run_length.specs.Literals.{literals}
-use Rattle.pgs_run_length.proofs.LiteralBytes.{literals-tested, literals-missing}
 use Rattle.pgs_run_length.proofs.code.eight_literals.Given as goal
 
 abbrev pub invariant-loop-i : goal.invariant-loop-i

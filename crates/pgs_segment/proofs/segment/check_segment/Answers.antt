@@ -4,14 +4,13 @@ use Prim.Native.Nat.{ℕ}
 use Rattle.pgs_base.proofs.Outcomes.{gave, gave-value, turned_down, gives_as, refuses-as}
 use Rattle.pgs_base.specs.Outcome.{gives, outcome_of, accepted}
 use Rattle.pgs_segment.proofs.SegmentLaws.{has-header, head-decides, body-past-end, body-decides, lent-body}
-use Rattle.pgs_records.specs.Checks.{checked_outcome}
 use Rattle.pgs_segment.specs.Fields.{body_verdict, body_list}
-use Rattle.pgs_segment.specs.Header.{header_outcome, header_verdict, header_fields, size_of, kind_of}
+use Rattle.pgs_segment.specs.Header.{header_verdict, header_fields, size_of, kind_of}
 use Rattle.pgs_views.specs.Kinds.{type_of}
 use Rattle.pgs_segment.specs.OneSegment.{segment_type, body_at, frame_of}
 use Rattle.pgs_segment.specs.declared.header.SegmentHeader.{SegmentHeader}
 use mathlib.Core.List.{List}
-use mathlib.Core.Path.{◌≡◌, sym, ap, ◌∙◌}
+use mathlib.Core.Path.{◌≡◌, ap, ◌∙◌}
 use native.Mathlib.Omega.{arith}
 use Rattle.pgs_segment.proofs.segment.check_segment.Goals as goal
 

@@ -1,9 +1,6 @@
-use Rattle.pgs_set.proofs.SetLaws.{read-within, Storing, storing, stores-on, stored-sets, finds-more, opens-read, ends_read, outside-here}
+use Rattle.pgs_set.proofs.SetLaws.{read-within, storing, stores-on, stored-sets, finds-more, opens-read, ends_read, outside-here}
 use Rattle.pgs_set.specs.Sets.{set_count}
-use borrow.Author.Rules.{rules, scaled_Fits}
 use Prim.Native.Nat.{◌<◌}
-use Prim.Native.Nat.{◌-◌}
-use lib.ListN.{length}
 use native.Mathlib.Omega.{arith}
 use Rattle.pgs_set.proofs.set.fill_sets.Goals as goal
 

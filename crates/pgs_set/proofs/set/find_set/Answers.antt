@@ -1,7 +1,6 @@
 use Rattle.pgs_base.proofs.Outcomes.{gave, gave-value, turned_down}
 use Rattle.pgs_set.proofs.NumberLaws.{stands-open, finds-set, finds-no-sets, finds_past}
-use Rattle.pgs_set.specs.Sets.{sets_verdict, set_count, sets_outcome}
-use mathlib.Core.Path.{sym, ap, ◌∙◌}
+use Rattle.pgs_set.specs.Sets.{sets_verdict, set_count}
 use native.Mathlib.Omega.{arith}
 use Rattle.pgs_set.proofs.set.find_set.Goals as goal
 

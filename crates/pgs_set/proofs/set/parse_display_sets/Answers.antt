@@ -1,7 +1,6 @@
 use Rattle.pgs_base.proofs.Outcomes.{gave, gave-value, turned_down, delivers-refusal, delivers-short, delivers-all}
 use Rattle.pgs_set.proofs.SetLaws.{set-rows}
-use Rattle.pgs_set.specs.Sets.{sets_verdict, set_count, sets_outcome}
-use mathlib.Core.Path.{sym, ap, ◌∙◌}
+use Rattle.pgs_set.specs.Sets.{sets_verdict, set_count}
 use native.Mathlib.Omega.{arith}
 use Rattle.pgs_set.proofs.set.parse_display_sets.Goals as goal
 

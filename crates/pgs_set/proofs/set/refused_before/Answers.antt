@@ -1,8 +1,8 @@
 use Rattle.pgs_base.proofs.Outcomes.{gave, turned_down, refuses-as}
 use Rattle.pgs_base.specs.Outcome.{Verdict, refused, and_then}
 use Rattle.pgs_base.specs.Refusals.{number_of}
-use Rattle.pgs_stream.specs.Stream.{stream_verdict, segment_count, stream_outcome}
-use mathlib.Core.Path.{sym, ap, ◌∙◌}
+use Rattle.pgs_stream.specs.Stream.{stream_verdict, segment_count}
+use mathlib.Core.Path.{ap}
 use Rattle.pgs_set.proofs.set.refused_before.Goals as goal
 
 pub returns-in-Refused : goal.returns-in-Refused

@@ -1,7 +1,6 @@
-use Rattle.pgs_set.proofs.SetLaws.{read-within, Passing, passing, inside-here, passes-read, passed-read}
+use Rattle.pgs_set.proofs.SetLaws.{Passing}
 use Prim.Native.Nat.{◌-◌}
 use lib.ListN.{length}
-use native.Mathlib.Omega.{arith}
 use Rattle.pgs_set.proofs.set.set_end.Given as goal
 
 abbrev pub invariant-loop-from : goal.invariant-loop-from

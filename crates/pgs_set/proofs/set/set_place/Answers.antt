@@ -1,8 +1,7 @@
-use Rattle.pgs_set.proofs.SetLaws.{read-within, Finding, finding, finds-more, finds-on, found-set, opens-read, ends_read, outside-here}
+use Rattle.pgs_set.proofs.SetLaws.{read-within, finding, finds-more, finds-on, found-set, opens-read, ends_read, outside-here}
 use Rattle.pgs_set.specs.Sets.{set_count}
-use Prim.Native.Nat.{◌≤◌, ◌<◌}
+use Prim.Native.Nat.{◌<◌}
 use mathlib.Core.Path.{◌≡◌}
-use Prim.Native.Nat.{◌-◌}
 use native.Mathlib.Omega.{arith}
 use Rattle.pgs_set.proofs.set.set_place.Goals as goal
 

@@ -2,8 +2,7 @@
 -- Assumes nothing.
 use Rattle.pgs_base.proofs.Outcomes.{gave, gave-value, turned_down, delivers-refusal, delivers-short, delivers-all}
 use Rattle.pgs_stream.proofs.StreamLaws.{segment-rows}
-use Rattle.pgs_stream.specs.Stream.{stream_verdict, segment_count, stream_outcome}
-use mathlib.Core.Path.{sym, ap, ◌∙◌}
+use Rattle.pgs_stream.specs.Stream.{stream_verdict, segment_count}
 use native.Mathlib.Omega.{arith}
 use Rattle.pgs_stream.proofs.stream.parse_segments.Goals as goal
 

@@ -2,13 +2,13 @@ use Prim.Native.Nat.{ℕ, ◌≤◌}
 use Rattle.pgs_base.proofs.Outcomes.{gave-value, turned_down, not-both}
 use Rattle.pgs_base.specs.Outcome.{Outcome, accepted, gives, outcome_of}
 use Rattle.pgs_ods.proofs.OdsLaws.{has-dimensions}
-use Rattle.pgs_ods.specs.OdsBody.{ods_of, ods_verdict, ods_list, ods_outcome}
+use Rattle.pgs_ods.specs.OdsBody.{ods_of, ods_verdict, ods_list}
 use Rattle.pgs_ods.specs.declared.ods.Ods.{Ods}
 use Rattle.pgs_records.specs.declared.BodyList.{BodyList}
 use Rattle.pgs_stream_writer.proofs.ReadAgain.{same_write, ods-again}
 use lib.ListN.{length}
 use mathlib.Core.List.{List}
-use mathlib.Core.Path.{◌≡◌, sym, ap, ◌∙◌}
+use mathlib.Core.Path.{◌≡◌, ap}
 use native.Mathlib.Omega.{arith}
 use Rattle.pgs_stream_writer.proofs.rewrite.rewrite_ods.Goals as goal
 

@@ -3,13 +3,13 @@ use Rattle.pgs_base.proofs.Outcomes.{gave-value, turned_down, not-both}
 use Rattle.pgs_views.specs.Kinds.{type_of}
 use Rattle.pgs_base.specs.Outcome.{gives, outcome_of}
 use Rattle.pgs_segment.proofs.SegmentLaws.{accepted-head, accepted-size, accepted-body, lent-verdict}
-use Rattle.pgs_segment.specs.Header.{size_of, header_verdict, header_fields, header_outcome}
+use Rattle.pgs_segment.specs.Header.{size_of, header_verdict, header_fields}
 use Rattle.pgs_segment.specs.OneSegment.{segment_type}
 use Rattle.pgs_segment.specs.declared.header.SegmentHeader.{SegmentHeader}
 use Rattle.pgs_stream_writer.proofs.ReadAgain.{same_write, segment-again}
 use lib.ListN.{length, take, drop, length-take}
 use mathlib.Core.List.{List}
-use mathlib.Core.Path.{◌≡◌, sym, ap, ◌∙◌}
+use mathlib.Core.Path.{◌≡◌, ap, ◌∙◌}
 use mir.Syntax.{w16}
 use mir.Val.{Fits}
 use native.Mathlib.Omega.{arith}

@@ -1,7 +1,7 @@
 use Rattle.pgs_base.proofs.Outcomes.{gave, gave-value, turned_down}
-use Rattle.pgs_stream.specs.Stream.{stream_verdict, segment_count, stream_outcome}
+use Rattle.pgs_stream.specs.Stream.{stream_verdict, segment_count}
 use Rattle.pgs_stream_writer.proofs.StreamWriteLaws.{accepted-writes, refused-writes, all-writes}
-use mathlib.Core.Path.{refl, sym, ap, ◌∙◌}
+use mathlib.Core.Path.{refl}
 use native.Mathlib.Omega.{arith}
 use Rattle.pgs_stream_writer.proofs.stream.write_segments.Goals as goal
 

@@ -1,13 +1,8 @@
 -- `fill_windows` stores the windows from the list's front: the loop keeps `Filling`.
 -- Assumes nothing.
-use Prim.Native.Nat.{ℕ, ◌-◌}
 use Rattle.pgs_base.proofs.Lists.{to_end}
-use Rattle.pgs_records.proofs.RecordLaws.{Filling, filling, next_fits, turn, stored-rows}
-use Rattle.pgs_records.specs.Records.{records}
+use Rattle.pgs_records.proofs.RecordLaws.{filling, next_fits, turn, stored-rows}
 use Rattle.pgs_wds.specs.WdsBody.{window_of, window_size, window_row}
-use borrow.Author.Rules.{scaled_Fits}
-use lib.ListN.{length, drop}
-use mathlib.Core.List.{List}
 use mathlib.Core.Path.{ap, ◌∙◌}
 use native.Mathlib.Omega.{arith}
 use Rattle.pgs_wds.proofs.wds.fill_windows.Invariants.{row}

@@ -1,8 +1,6 @@
 -- `put_data` copies byte by byte: the loop keeps `Copying`.
 -- Assumes nothing.
-use Prim.Native.Nat.{◌-◌}
-use Rattle.pgs_writer_base.proofs.PutLaws.{Copying, copying, copies-on, copied}
-use lib.ListN.{length}
+use Rattle.pgs_writer_base.proofs.PutLaws.{copying, copies-on, copied}
 use native.Mathlib.Omega.{arith}
 use Rattle.pgs_writer.proofs.data.put_data.Goals as goal
 

@@ -1,9 +1,8 @@
 -- `put_data` copies byte by byte: the loop keeps `Copying`.
 -- Assumes nothing.
 use Prim.Native.Nat.{◌-◌}
-use Rattle.pgs_writer_base.proofs.PutLaws.{Copying, copying, copies-on, copied}
+use Rattle.pgs_writer_base.proofs.PutLaws.{Copying}
 use lib.ListN.{length}
-use native.Mathlib.Omega.{arith}
 use Rattle.pgs_writer.proofs.data.put_data.Given as goal
 
 abbrev pub invariant-loop-i : goal.invariant-loop-i

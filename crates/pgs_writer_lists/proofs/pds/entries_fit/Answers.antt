@@ -1,14 +1,10 @@
 -- `entries_fit` tests each record: the loop keeps `Testing`.
 -- Assumes nothing.
-use Prim.Native.Nat.{◌-◌}
-use Rattle.pgs_writer_base.proofs.EachLaws.{Testing, testing, passes, fails, passed}
+use Rattle.pgs_writer_base.proofs.EachLaws.{testing, passes, fails, passed}
 use Rattle.pgs_encoding.specs.Encode.{entry_fields}
 use Rattle.pgs_encoding.specs.Layout.{all_fit}
 use Rattle.pgs_writer_base.specs.Rows.{entry_from}
-use borrow.Author.Rules.{scaled_Fits}
-use lib.ListN.{length}
 use mathlib.Core.Path.{sym, ◌∙◌}
-use native.Mathlib.Omega.{arith}
 use Rattle.pgs_writer_lists.proofs.pds.entries_fit.Goals as goal
 
 pub loop-i-init : goal.loop-i-init

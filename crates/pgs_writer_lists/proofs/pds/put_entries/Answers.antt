@@ -1,12 +1,10 @@
 -- `put_entries` stores each record: the loop keeps `Storing`.
 -- Assumes nothing.
-use Prim.Native.Nat.{◌-◌}
-use Rattle.pgs_writer_base.proofs.EachLaws.{Storing, storing, room, stores, stored}
+use Rattle.pgs_writer_base.proofs.EachLaws.{storing, room, stores, stored}
 use Rattle.pgs_encoding.proofs.LayoutLaws.{length-written}
 use Rattle.pgs_encoding.specs.Encode.{entry_fields}
 use Rattle.pgs_writer_base.specs.Rows.{entry_from}
-use borrow.Author.Rules.{scaled_Fits}
-use lib.ListN.{length, get_or}
+use lib.ListN.{get_or}
 use mathlib.Core.List.{[]}
 use mathlib.Core.Path.{sym}
 use native.Mathlib.Omega.{arith}

@@ -1,14 +1,11 @@
 -- `windows_fit` tests each record: the loop keeps `Testing`.
 -- Assumes nothing.
 use Prim.Native.Nat.{◌-◌}
-use Rattle.pgs_writer_base.proofs.EachLaws.{Testing, testing, passes, fails, passed}
+use Rattle.pgs_writer_base.proofs.EachLaws.{Testing}
 use Rattle.pgs_encoding.specs.Encode.{window_fields}
 use Rattle.pgs_encoding.specs.Layout.{all_fit}
 use Rattle.pgs_writer_base.specs.Rows.{window_from}
-use borrow.Author.Rules.{scaled_Fits}
 use lib.ListN.{length}
-use mathlib.Core.Path.{sym, ◌∙◌}
-use native.Mathlib.Omega.{arith}
 use Rattle.pgs_writer_lists.proofs.wds.windows_fit.Given as goal
 
 abbrev pub invariant-loop-i : goal.invariant-loop-i

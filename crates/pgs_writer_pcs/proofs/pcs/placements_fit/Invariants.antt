@@ -1,14 +1,10 @@
 -- `placements_fit` tests each record: the loop keeps `Testing`.
 -- Assumes nothing.
 use Prim.Native.Nat.{ℕ, ◌-◌}
-use Rattle.pgs_writer_base.proofs.EachLaws.{Testing, testing, passes, fails, passed}
-use Rattle.pgs_writer_base.proofs.PlacementLaws.{rows_fit}
+use Rattle.pgs_writer_base.proofs.EachLaws.{Testing}
 use Rattle.pgs_writer_base.specs.Kinds.{placement_row_fits}
-use borrow.Author.Rules.{scaled_Fits}
 use lib.ListN.{length}
 use mathlib.Core.List.{List}
-use mathlib.Core.Path.{sym, ◌∙◌}
-use native.Mathlib.Omega.{arith}
 use Rattle.pgs_writer_pcs.proofs.pcs.placements_fit.Given as goal
 
 abbrev pub invariant-loop-i : goal.invariant-loop-i

@@ -1,12 +1,9 @@
 -- `placements_size` adds the sizes up: the loop keeps `Measuring`.
 -- Assumes nothing.
-use Prim.Native.Nat.{◌-◌}
-use Rattle.pgs_writer_base.proofs.EachLaws.{Measuring, measuring, measures, within, measured}
+use Rattle.pgs_writer_base.proofs.EachLaws.{measuring, measures, within, measured}
 use Rattle.pgs_writer_base.proofs.PlacementLaws.{rows-most}
 use Rattle.pgs_encoding.specs.Encode.{placement_fields}
 use Rattle.pgs_writer_base.specs.Rows.{placement_from}
-use borrow.Author.Rules.{scaled_Fits}
-use lib.ListN.{length}
 use native.Mathlib.Omega.{arith}
 use Rattle.pgs_writer_pcs.proofs.pcs.placements_size.Goals as goal
 

@@ -1,12 +1,9 @@
 -- `put_placements` stores each record: the loop keeps `Storing`.
 -- Assumes nothing.
-use Prim.Native.Nat.{◌-◌}
-use Rattle.pgs_writer_base.proofs.EachLaws.{Storing, storing, room, stores, stored}
+use Rattle.pgs_writer_base.proofs.EachLaws.{storing, room, stores, stored}
 use Rattle.pgs_writer_base.proofs.PlacementLaws.{window-byte, flag-byte}
 use Rattle.pgs_encoding.specs.Encode.{placement_fields}
 use Rattle.pgs_writer_base.specs.Rows.{placement_from}
-use borrow.Author.Rules.{scaled_Fits}
-use lib.ListN.{length}
 use native.Mathlib.Omega.{arith}
 use Rattle.pgs_writer_pcs.proofs.pcs.put_placements.Goals as goal
 

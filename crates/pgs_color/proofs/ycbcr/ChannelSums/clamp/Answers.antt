@@ -1,6 +1,5 @@
 -- `ChannelSums::clamp` gives the byte of each of the three sums.
 -- Assumes nothing.
-use Rattle.std.proofs.Common.{rules}
 use Rattle.pgs_color.proofs.ycbcr.ChannelSums.clamp.Goals as goal
 
 pub returns : goal.returns

@@ -1,9 +1,7 @@
 -- `Ods::parse` gives what `check_ods` found and the numbers.
 -- Assumes nothing.
 use Rattle.pgs_base.proofs.Outcomes.{gave, gave-value, turned_down, gives_as, refuses-as}
-use Rattle.pgs_records.specs.Checks.{checked_outcome}
 use Rattle.pgs_ods.specs.OdsBody.{ods_of, ods_verdict, ods_list}
-use mathlib.Core.Path.{sym, ap, ◌∙◌}
 use Rattle.pgs_ods.proofs.ods.Ods.parse.Goals as goal
 
 pub returns-in-Refused : goal.returns-in-Refused

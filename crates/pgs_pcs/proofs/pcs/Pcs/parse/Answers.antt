@@ -5,12 +5,11 @@ use Rattle.pgs_base.proofs.Outcomes.{gave, gave-value, turned_down, delivers-ref
 use Rattle.pgs_base.specs.Outcome.{gives, outcome_of}
 use Rattle.pgs_pcs.proofs.PcsLaws.{has-numbers, has-placements, placement-rows}
 use Rattle.pgs_records.proofs.RecordLaws.{rows_at}
-use Rattle.pgs_records.specs.Checks.{checked_outcome}
 use Rattle.pgs_pcs.specs.PcsBody.{placement_of, placement_size, placement_row, placement_rows, placement_count, pcs_verdict, pcs_list}
 use Rattle.pgs_records.specs.declared.BodyList.{BodyList}
 use lib.ListN.{drop}
 use mathlib.Core.List.{List}
-use mathlib.Core.Path.{◌≡◌, sym, ap, ◌∙◌}
+use mathlib.Core.Path.{◌≡◌, ap, ◌∙◌}
 use native.Mathlib.Omega.{arith}
 use Rattle.pgs_pcs.proofs.pcs.Pcs.parse.Goals as goal
 

@@ -5,12 +5,11 @@ use Rattle.pgs_base.proofs.Outcomes.{gave, gave-value, turned_down, delivers-ref
 use Rattle.pgs_base.specs.Outcome.{gives, outcome_of}
 use Rattle.pgs_pds.proofs.PdsLaws.{has-numbers, has-entries, entry-rows}
 use Rattle.pgs_records.proofs.RecordLaws.{rows_at}
-use Rattle.pgs_records.specs.Checks.{checked_outcome}
 use Rattle.pgs_pds.specs.PdsBody.{entry_of, entry_size, entry_row, entry_rows, entry_count, pds_verdict, pds_list}
 use Rattle.pgs_records.specs.declared.BodyList.{BodyList}
 use lib.ListN.{drop}
 use mathlib.Core.List.{List}
-use mathlib.Core.Path.{◌≡◌, sym, ap, ◌∙◌}
+use mathlib.Core.Path.{◌≡◌, ap, ◌∙◌}
 use native.Mathlib.Omega.{arith}
 use Rattle.pgs_pds.proofs.pds.Pds.parse.Goals as goal
 

@@ -6,10 +6,10 @@ use Rattle.pgs_base.specs.Outcome.{gives, outcome_of, accepted}
 use Rattle.pgs_segment.proofs.SegmentLaws.{lent-numbers, accepted-size}
 use Rattle.pgs_segment.specs.Header.{size_of, kind_of}
 use Rattle.pgs_views.specs.Kinds.{type_of}
-use Rattle.pgs_segment.specs.OneSegment.{segment_verdict, frame_of, frame_outcome, segment_of}
+use Rattle.pgs_segment.specs.OneSegment.{segment_verdict, frame_of, segment_of}
 use Rattle.pgs_segment.specs.declared.segment.Frame.{Frame}
 use mathlib.Core.List.{List}
-use mathlib.Core.Path.{◌≡◌, sym, ap, ◌∙◌}
+use mathlib.Core.Path.{◌≡◌, ap, ◌∙◌}
 use native.Mathlib.Omega.{arith}
 use Rattle.pgs_segment.proofs.segment.Segment.parse.Goals as goal
 

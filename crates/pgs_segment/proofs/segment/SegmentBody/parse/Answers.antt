@@ -1,9 +1,7 @@
 -- `SegmentBody::parse` gives what `check_body` found and the numbers.
 -- Assumes nothing.
 use Rattle.pgs_base.proofs.Outcomes.{gave, gave-value, turned_down, gives_as, refuses-as}
-use Rattle.pgs_records.specs.Checks.{checked_outcome}
 use Rattle.pgs_segment.specs.Fields.{body_verdict, body_list, body_of, numbers_of}
-use mathlib.Core.Path.{sym, ap, ◌∙◌}
 use Rattle.pgs_segment.proofs.segment.SegmentBody.parse.Goals as goal
 
 pub returns-in-Refused : goal.returns-in-Refused

@@ -5,12 +5,11 @@ use Rattle.pgs_base.proofs.Outcomes.{gave, gave-value, turned_down, delivers-ref
 use Rattle.pgs_base.specs.Outcome.{gives, outcome_of}
 use Rattle.pgs_records.proofs.RecordLaws.{rows_at}
 use Rattle.pgs_wds.proofs.WdsLaws.{has-count, has-windows, window-rows}
-use Rattle.pgs_records.specs.Checks.{checked_outcome}
 use Rattle.pgs_wds.specs.WdsBody.{wds_verdict, wds_list, window_rows, window_count, window_size, window_row, window_of}
 use Rattle.pgs_records.specs.declared.BodyList.{BodyList}
 use lib.ListN.{drop}
 use mathlib.Core.List.{List}
-use mathlib.Core.Path.{◌≡◌, sym, ap, ◌∙◌}
+use mathlib.Core.Path.{◌≡◌, ap, ◌∙◌}
 use native.Mathlib.Omega.{arith}
 use Rattle.pgs_wds.proofs.wds.Wds.parse.Goals as goal
 
