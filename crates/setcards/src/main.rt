@@ -1,7 +1,7 @@
 // Prints a line for each display set of the stream on standard input (01, 'Bench samples').
 #![tactic(auto)]
 
-ghost use Rattle.std.specs.Prelude.{◌≡◌, length};
+ghost use Rattle.std.specs.Prelude.{◌≡◌, ◌≤◌, length, IfOk};
 ghost use Rattle.pgs_cards.specs.Reports.{input_limit};
 ghost use Rattle.setcards.specs.Printing.{Reported};
 
@@ -22,13 +22,26 @@ fn report(input: &[u8], out: &mut [u8]) -> usize
     }
 }
 
+// Reads until the buffer is full or the input ends, and says how many bytes were read.
+fn read_full(reader: &mut impl Read, buf: &mut [u8]) -> io::Result<usize>
+    ensures { IfOk result (λ n. n ≤ length buf.new) }
+{
+    let mut got: usize = 0;
+    while got < buf.len() {
+        let n = reader.read(&mut buf[got..])?;
+        if n == 0 {
+            return Ok(got);
+        }
+        got += n;
+    }
+    Ok(got)
+}
+
 fn main(rt: HostRuntime) -> io::Result<()> {
     // one byte more than the longest input, so that a longer one is noticed
-    let mut input = Vec::new(rt.alloc());
-    rt.reader()
-        .take(INPUT_LIMIT as u64 + 1)
-        .read_to_end(&mut input)?;
+    let mut input = [0u8; INPUT_LIMIT + 1];
+    let got = read_full(&mut rt.reader(), &mut input)?;
     let mut out = [0u8; INPUT_LIMIT];
-    let count = report(&input, &mut out);
+    let count = report(&input[..got], &mut out);
     rt.write_all(&out[..count])
 }
