@@ -1,14 +1,10 @@
 -- `paint_placement` meets its contract: each answer follows from the tests that led to it. Assumes nothing.
-use mathlib.Core.Path.{◌≡◌}
-use mathlib.Core.Bool.{true}
 use Prim.Native.Nat.{◌*◌}
 use native.Mathlib.Omega.{arith}
 use Rattle.pgs_plane.specs.Placing.{image_of, table_color}
-use Rattle.pgs_plane.specs.Calls.{all_fit}
 use Rattle.pgs_plane.proofs.AreaLaws.{area-fits}
 use Rattle.pgs_paint.proofs.PlaneLaws.{no-columns, no-rows-shown}
 use Rattle.pgs_plane.proofs.CallLaws.{refuses, changes, short-plane, short-table, short-bitmap, all-fit}
-use Rattle.pgs_paint.proofs.paint.paint_placement.Goals.{After-clip-s}
 use Rattle.pgs_paint.proofs.paint.paint_placement.Goals as goal
 
 pub overflow_mul-w-2 : goal.overflow_mul-w-2
@@ -32,24 +28,19 @@ returns-then-bitmap-iw c =
     let a = c.args in
     refuses (short-bitmap (image_of a.image_width a.image_height a.bitmap.now) a.table.now a.width a.height a.plane.now c.if-plane-w.false c.if-table-lt-TABLE_LEN.false c.if-bitmap-iw.true)
 
--- past the three tests the needs are met
-met : (c : After-clip-s)
-    → all_fit (image_of c.args.image_width c.args.image_height c.args.bitmap.now) c.args.table.now c.args.width c.args.height c.args.plane.now ≡ true
-met c =
-    let a = c.args in
-    all-fit (image_of a.image_width a.image_height a.bitmap.now) a.table.now a.width a.height a.plane.now c.if-plane-w.false c.if-table-lt-TABLE_LEN.false c.if-bitmap-iw.false
-
 pub returns-then-s-eq0 : goal.returns-then-s-eq0
 returns-then-s-eq0 c =
     let a = c.args in
-    changes (met (goal.at.returns-then-s-eq0 c).After-clip-s)
+    changes (all-fit (image_of a.image_width a.image_height a.bitmap.now) a.table.now a.width a.height a.plane.now
+    c.if-plane-w.false c.if-table-lt-TABLE_LEN.false c.if-bitmap-iw.false)
     (no-columns (table_color a.table.now) _ c.clip-s.result _ a.width a.height (c.clip-s.ensures.by_index a.bitmap.now)
     a.plane.now c.if-s-eq0.true)
 
 pub returns-then-s-eq0-2 : goal.returns-then-s-eq0-2
 returns-then-s-eq0-2 c =
     let a = c.args in
-    changes (met (goal.at.returns-then-s-eq0-2 c).After-clip-s)
+    changes (all-fit (image_of a.image_width a.image_height a.bitmap.now) a.table.now a.width a.height a.plane.now
+    c.if-plane-w.false c.if-table-lt-TABLE_LEN.false c.if-bitmap-iw.false)
     (no-rows-shown (table_color a.table.now) _ c.clip-s.result _ a.width a.height
     (c.clip-s.ensures.by_index a.bitmap.now) a.plane.now c.if-s-eq0-2.true)
 
@@ -70,4 +61,8 @@ paint_rows-requires c =
 
 pub returns : goal.returns
 returns c =
-    changes (met (goal.at.returns c).After-clip-s) (c.paint_rows.ensures _ (c.clip-s.ensures.by_index c.args.bitmap.now))
+    let a = c.args in
+    changes
+    (all-fit (image_of a.image_width a.image_height a.bitmap.now) a.table.now a.width a.height a.plane.now
+    c.if-plane-w.false c.if-table-lt-TABLE_LEN.false c.if-bitmap-iw.false)
+    (c.paint_rows.ensures _ (c.clip-s.ensures.by_index a.bitmap.now))
