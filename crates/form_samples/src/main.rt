@@ -1,4 +1,4 @@
-// Prints what the two forms that are proved by hand answer, for rt to compare with the file stdout: the head and the data of a fragment
+// Prints what the reader and the records as structs answer, for rt to compare with the file stdout: the head and the data of a fragment
 // through the body reader, and the segments of a stream as structs in a list that was full of 9s before.
 #![tactic(auto)]
 
