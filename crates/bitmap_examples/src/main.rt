@@ -2,7 +2,7 @@
 // first `room` bytes were lent.
 #![tactic(auto)]
 
-use pgs_bitmap_check::bitmap::Decoded;
+use pgs_bitmap::bitmap::decode_rle;
 use std::io;
 
 fn print_bytes(rt: &impl Print, bytes: &[u8]) -> io::Result<()> {
@@ -23,14 +23,14 @@ fn show_in(
     if buffer.len() < room {
         return Ok(());
     }
-    let answer = pgs_bitmap::bitmap::decode_rle(data, width, height, &mut buffer[..room]);
+    let answer = decode_rle(data, width, height, &mut buffer[..room]);
     print!(rt; "{width}/{height}")?;
     print_bytes(rt, data)?;
     match answer {
-        Decoded::Accepted => {
+        Ok(_) => {
             print!(rt; ": accepted")?;
         }
-        Decoded::Refused(why) => {
+        Err(why) => {
             print!(rt; ": refused {}", why.number())?;
         }
     }

@@ -1,72 +1,35 @@
 // Prints the colours of a few Y, Cb and Cr, and of palettes, for rt to compare with the file stdout.
 #![tactic(auto)]
 
-use pgs_palette::palette::{Looked, Updated};
+use pgs_base::refusal::Refusal;
+use pgs_color::ycbcr::{Rgb8, ycbcr709_to_rgb};
+use pgs_palette::palette::{Rgba8, apply, clear, get};
 use std::io;
-
-fn print_space(rt: &impl Print) -> io::Result<()> {
-    print!(rt; " ")
-}
-
-fn print_line_end(rt: &impl Print) -> io::Result<()> {
-    println!(rt; "")
-}
-
-fn print_decimal(rt: &impl Print, n: u8) -> io::Result<()> {
-    print!(rt; "{n}")
-}
-
-fn print_hex(rt: &impl Print, n: u8) -> io::Result<()> {
-    print!(rt; "{n:02x}")
-}
-
-fn print_triple(rt: &impl Print, a: u8, b: u8, c: u8) -> io::Result<()> {
-    print_decimal(rt, a)?;
-    print_space(rt)?;
-    print_decimal(rt, b)?;
-    print_space(rt)?;
-    print_decimal(rt, c)
-}
 
 // Y, Cb and Cr, and their colour.
 fn print_color(rt: &impl Print, y: u8, cb: u8, cr: u8) -> io::Result<()> {
-    print_triple(rt, y, cb, cr)?;
-    print!(rt; " is ")?;
-    let c = pgs_color::ycbcr::ycbcr709_to_rgb(y, cb, cr);
-    print_triple(rt, c.r, c.g, c.b)?;
-    print_line_end(rt)
+    let Rgb8 { r, g, b } = ycbcr709_to_rgb(y, cb, cr);
+    println!(rt; "{y} {cb} {cr} is {r} {g} {b}")
 }
 
-fn print_refusal(rt: &impl Print, number: u8) -> io::Result<()> {
-    print!(rt; "refused ")?;
-    print_decimal(rt, number)?;
-    print_line_end(rt)
+fn print_refusal(rt: &impl Print, refusal: Refusal) -> io::Result<()> {
+    let number = refusal.number();
+    println!(rt; "refused {number}")
 }
 
 // The pixel of an index, in hexadecimal.
 fn print_index(rt: &impl Print, table: &[u8], index: u8) -> io::Result<()> {
-    print!(rt; "index ")?;
-    print_decimal(rt, index)?;
-    print!(rt; ": ")?;
-    match pgs_palette::palette::get(table, index) {
-        Looked::Color(c) => {
-            print_hex(rt, c.r)?;
-            print_space(rt)?;
-            print_hex(rt, c.g)?;
-            print_space(rt)?;
-            print_hex(rt, c.b)?;
-            print_space(rt)?;
-            print_hex(rt, c.a)?;
-            print_line_end(rt)
-        }
-        Looked::Refused(k) => print_refusal(rt, k.number()),
+    print!(rt; "index {index}: ")?;
+    match get(table, index) {
+        Ok(Rgba8 { r, g, b, a }) => println!(rt; "{r:02x} {g:02x} {b:02x} {a:02x}"),
+        Err(refusal) => print_refusal(rt, refusal),
     }
 }
 
-fn print_update(rt: &impl Print, update: Updated) -> io::Result<()> {
+fn print_update(rt: &impl Print, update: Result<(), Refusal>) -> io::Result<()> {
     match update {
-        Updated::Done => println!(rt; "done"),
-        Updated::Refused(k) => print_refusal(rt, k.number()),
+        Ok(()) => println!(rt; "done"),
+        Err(refusal) => print_refusal(rt, refusal),
     }
 }
 
@@ -81,15 +44,15 @@ fn print_colors(rt: &impl Print) -> io::Result<()> {
 // A palette under id 0, which the PCS names; the table starts without an entry.
 fn print_palette(rt: &impl Print) -> io::Result<()> {
     let mut table = [255u8; 1024];
-    print_update(rt, pgs_palette::palette::clear(&mut table))?;
+    print_update(rt, clear(&mut table))?;
     print_index(rt, &table, 1)?;
     // entries are id, Y, Cr, Cb, alpha
     let first = [[1u8, 0x51, 0xf0, 0x5a, 0xff]];
-    print_update(rt, pgs_palette::palette::apply(&first, 0, 0, &mut table))?;
+    print_update(rt, apply(&first, 0, 0, &mut table))?;
     print_index(rt, &table, 1)?;
     // another palette does not apply
     let other = [[1u8, 0x10, 0x80, 0x80, 0xff]];
-    print_update(rt, pgs_palette::palette::apply(&other, 5, 0, &mut table))?;
+    print_update(rt, apply(&other, 5, 0, &mut table))?;
     print_index(rt, &table, 1)?;
     // a later segment's entry wins, and of two with one id the later; alpha 0 keeps the colour
     let later = [
@@ -97,7 +60,7 @@ fn print_palette(rt: &impl Print) -> io::Result<()> {
         [1u8, 0x51, 0xf0, 0x5a, 0x00],
         [3u8, 0xeb, 0x80, 0x80, 0x80],
     ];
-    print_update(rt, pgs_palette::palette::apply(&later, 0, 0, &mut table))?;
+    print_update(rt, apply(&later, 0, 0, &mut table))?;
     print_index(rt, &table, 1)?;
     print_index(rt, &table, 2)?;
     print_index(rt, &table, 3)
@@ -106,7 +69,7 @@ fn print_palette(rt: &impl Print) -> io::Result<()> {
 // A table that is one byte short.
 fn print_short(rt: &impl Print) -> io::Result<()> {
     let mut table = [255u8; 1023];
-    print_update(rt, pgs_palette::palette::clear(&mut table))?;
+    print_update(rt, clear(&mut table))?;
     print_index(rt, &table, 1)
 }
 

@@ -1,15 +1,18 @@
 -- Numbers written in bytes and read back, over the width. Assumes nothing.
 use mathlib.Core.Path.{◌≡◌, refl, sym, ap, ◌∙◌}
 use mathlib.Core.Bool.{Bool, true, false}
-use mathlib.Core.List.{List, [], ◌∷◌, ◌++◌}
+use mathlib.Core.List.{List, [], ◌∷◌, ◌++◌, append_assoc, append-nil}
 use Prim.Native.Nat.{ℕ, zero, suc, ◌+◌, ◌*◌, ◌/◌, ◌%◌, ◌^◌, ◌≤◌, ◌<◌}
-use native.Mathlib.Nat.{pow-suc, div-lt_iff_lt-mul}
+use native.Mathlib.Nat.{lt_of_lt_of_le, pow-suc, pow-le-pow_right, mul-le-mul_right, div-lt_iff_lt-mul}
 use native.Mathlib.Numerals.{add-one}
 use native.Mathlib.Omega.{arith}
 use borrow.Author.Tests.{ltb-true, ltb-false}
+use lib.Bits.{bit_or}
 use lib.Dec.{ltb}
 use lib.ListN.{length, take, drop, get_or, length-append, length-take, length-drop, get_or-eq_default}
 use lib.Seq.{take-suc, take_all, drop_at, take_at, get_or-take, get_or-drop, length-take-le}
+use Rattle.std.specs.List.{fold}
+use Rattle.std.proofs.lemmas.Nat.{or_shifted}
 use Rattle.pgs_base.specs.Bytes.{big, num, bytes_of, Bytes}
 
 pub length-bytes : (w n : ℕ) → length (bytes_of w n) ≡ w
@@ -62,3 +65,42 @@ pub bytes-num : (w at : ℕ) (l : List ℕ) → Bytes l → at + w ≤ length l 
 unfolding num
 bytes-num w at l h q =
     bytes-big w (take w (drop at l)) (bytes_take w (drop at l) (bytes_drop at l h)) (length-take-le w (drop at l) (rw length-drop (omega arith)))
+
+-- a byte joins the 32 bits of a number that it follows
+abbrev pub shifted : ℕ → ℕ → ℕ
+shifted n b = bit_or (n * 2 ^ 8 % 2 ^ 32) b
+
+shifted-big : (xs : List ℕ) (b : ℕ) → b < 256 → shifted (big xs % 2 ^ 32) b ≡ big (xs ++ (b ∷ [])) % 2 ^ 32
+shifted-big xs b h =
+    let high : big xs % 2 ^ 32 * 2 ^ 8 % 2 ^ 32 ≡ big xs % 2 ^ 24 * 2 ^ 8 = omega arith in
+    rw (high, or_shifted (big xs % 2 ^ 24) 8 b h, big-snoc xs b) (omega arith)
+
+-- and so do all of them, one after another
+pub fold-shifted : (xs ys : List ℕ) → Bytes ys → fold shifted (big xs % 2 ^ 32) ys ≡ big (xs ++ ys) % 2 ^ 32
+fold-shifted xs [] h = ap (λ (l : List ℕ). big l % 2 ^ 32) (sym (append-nil xs))
+fold-shifted xs (b ∷ bs) h =
+    ap (λ (n : ℕ). fold shifted n bs) (shifted-big xs b (h 0))
+    ∙ (fold-shifted (xs ++ (b ∷ [])) bs (λ i. h (suc i))
+    ∙ ap (λ (l : List ℕ). big l % 2 ^ 32) (append_assoc xs (b ∷ []) bs))
+
+-- a number of w bytes, or of fewer, is below 256 ^ w
+big-fits : (l : List ℕ) → Bytes l → big l < 256 ^ length l
+big-fits [] h = omega arith
+big-fits (b ∷ bs) h =
+    let e : 256 ^ suc (length bs) ≡ 256 ^ length bs * 256 = pow-suc 256 (length bs) in
+    let p : (b + 1) * 256 ^ length bs ≤ 256 * 256 ^ length bs = mul-le-mul_right (256 ^ length bs) (omega (arith, h 0)) in
+    rw e (omega (arith, big-fits bs (λ i. h (suc i)), p))
+
+num-fits : (w at : ℕ) (l : List ℕ) → Bytes l → num w at l < 256 ^ w
+unfolding num
+num-fits w at l h =
+    let field : List ℕ = take w (drop at l) in
+    let short : length field ≤ w = rw length-take (omega arith) in
+    lt_of_lt_of_le (big-fits field (bytes_take w (drop at l) (bytes_drop at l h))) (pow-le-pow_right (omega arith) short)
+
+-- and of at most four bytes, one of 32 bits
+pub num-whole : (w at : ℕ) (l : List ℕ) → Bytes l → {n : ℕ} → n ≡ num w at l % 2 ^ 32 → w ≤ 4 → (n ≡ num w at l) × (n < 256 ^ w)
+num-whole w at l h e q =
+    let fits : num w at l < 256 ^ w = num-fits w at l h in
+    let most : 256 ^ w ≤ 256 ^ 4 = pow-le-pow_right (omega arith) q in
+    (omega (arith, e, fits, most), omega (arith, e, fits, most))

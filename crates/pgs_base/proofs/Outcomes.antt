@@ -6,7 +6,11 @@ use Prim.Native.Nat.{ℕ, ◌≤◌, ◌<◌}
 use native.Mathlib.Omega.{arith}
 use borrow.Author.Tests.{le-leb, lt-leb}
 use lib.ListN.{length}
-use Rattle.pgs_base.specs.Outcome.{Verdict, accepted, refused, gives, refuses, outcome_of, and_then, unless, is_accepted, laid, delivery, Delivered}
+use Rattle.std.proofs.lemmas.Result.{err_from_is_err_and}
+use Rattle.std.specs.Prelude.{Result, IsErrAnd}
+use Rattle.pgs_base.specs.Refusals.{number_of}
+use Rattle.pgs_base.specs.declared.refusal.Refusal.{Refusal}
+use Rattle.pgs_base.specs.Outcome.{Verdict, accepted, refused, gives, refuses, outcome, verdict_of, outcome_of, and_then, unless, is_accepted, laid, delivery, Delivered}
 
 module _ {X : Type 0} where
   -- values were given: the verdict accepts
@@ -30,6 +34,14 @@ module _ {X : Type 0} where
 
   pub refuses-as : {v : Verdict} (a : X) {k : ℕ} → v ≡ refused k → refuses k ≡ outcome_of v a
   refuses-as a e = rw e
+
+-- what `?` passes on is the refusal that came
+module _ {X : Type 0} (r : Result X Refusal) (e : Refusal) (h : IsErrAnd r (λ x. x ≡ e)) where
+  pub passed_on : outcome r ≡ refuses (number_of e)
+  passed_on = let p = err_from_is_err_and r h in rw (p.1, p.2)
+
+  pub passed_verdict : verdict_of r ≡ refused (number_of e)
+  passed_verdict = let p = err_from_is_err_and r h in rw (p.1, p.2)
 
 -- a verdict does not accept and refuse
 pub not-both : {v : Verdict} {k : ℕ} → v ≡ accepted → v ≡ refused k → ⊥
@@ -69,6 +81,12 @@ module _ {A X : Type 0} {v : Verdict} {x : X} {new before : List A} where
   -- the input is refused
   pub delivers-refusal : {k : ℕ} → v ≡ refused k → Delivered v x new before before (refuses k)
   delivers-refusal e = record { answered = rw e; written = rw e }
+
+  -- a refusal of the input that `?` passes on
+  pub delivers-passed : {Y : Type 0} (y : Y) (r : Result X Refusal) (e : Refusal) → IsErrAnd r (λ d. d ≡ e) → refuses (number_of e) ≡ outcome_of v y
+      → Delivered v x new before before (outcome r)
+  delivers-passed y r e h q =
+      rw (passed_on r e h) (delivers-refusal (turned_down v y q))
 
   -- there is no room
   pub delivers-short : v ≡ accepted → length before < length new → Delivered v x new before before (refuses 34)

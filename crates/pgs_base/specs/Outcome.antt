@@ -1,5 +1,7 @@
 -- What a call comes to. 01, 'Why a call is turned down': "A refusal returns its number only."
-use Rattle.std.specs.Prelude.{ℕ, ◌≡◌, Bool, true, false, List, ◌++◌, length, drop, leb}
+use Rattle.std.specs.Prelude.{ℕ, ◌≡◌, Bool, true, false, List, ◌++◌, length, drop, leb, Result, Ok, Err}
+use Rattle.pgs_base.specs.Refusals.{number_of}
+use Rattle.pgs_base.specs.declared.refusal.Refusal.{Refusal}
 
 -- whether input is taken, or the number of why it is not
 pub data Verdict : Type 0 where
@@ -10,6 +12,16 @@ pub data Verdict : Type 0 where
 pub data Outcome (A : Type 0) : Type 0 where
   gives : A → Outcome A
   refuses : ℕ → Outcome A
+
+-- what a call's answer says: its values, or the number of why it was refused
+abbrev pub outcome : {A : Type 0} → Result A Refusal → Outcome A
+outcome (Ok a) = gives a
+outcome (Err r) = refuses (number_of r)
+
+-- what an answer says where its values do not matter, or where it has none
+abbrev pub verdict_of : {A : Type 0} → Result A Refusal → Verdict
+verdict_of (Ok a) = accepted
+verdict_of (Err r) = refused (number_of r)
 
 -- the values where the verdict accepts, else its number
 abbrev pub outcome_of : {A : Type 0} → Verdict → A → Outcome A

@@ -8,15 +8,13 @@ use native.Mathlib.Omega.{arith}
 use lib.Dec.{leb}
 use lib.ListN.{length, take, drop, replicate}
 use lib.Seq.{length-take-le, take_all}
-use borrow.Author.Tests.{le-leb, lt-leb}
-use Rattle.pgs_base.specs.Outcome.{Verdict, accepted, refused, and_then, unless, laid}
-use Rattle.pgs_base.specs.declared.refusal.Refusal.TheVariants.{BufferTooSmall}
+use borrow.Author.Tests.{le-leb}
+use Rattle.pgs_base.specs.Outcome.{Verdict, accepted, verdict_of, and_then, unless, laid}
+use Rattle.std.specs.Prelude.{Result, Ok, ⊤}
+use Rattle.pgs_base.specs.declared.refusal.Refusal.{Refusal}
 use Rattle.pgs_bitmap_check.specs.Bitmap.{reading_of, bitmap_of}
-use Rattle.pgs_bitmap_check.specs.Outcomes.{outcome}
 use Rattle.pgs_bitmap.specs.Decoding.{decode_verdict, Decoding}
 use Rattle.pgs_bitmap_store.specs.Padding.{padded_to}
-use Rattle.pgs_bitmap_check.specs.declared.bitmap.Decoded.{Decoded}
-use Rattle.pgs_bitmap_check.specs.declared.bitmap.Decoded.TheVariants.{Accepted, Refused}
 use Rattle.pgs_bitmap.proofs.BitmapArea.{bitmap-area}
 
 -- a product of two sizes fits
@@ -34,8 +32,8 @@ padded-whole pixels room e =
 
 module _ (bytes : List ℕ) (width height : ℕ) (before : List ℕ) where
   -- with the verdict of the call in hand
-  answer : (r : Decoded) (after : List ℕ) (v : Verdict) → decode_verdict bytes width height (length before) ≡ v
-      → outcome r ≡ v → after ≡ laid v (bitmap_of bytes) before → Decoding bytes width height before r after
+  answer : (r : Result ⊤ Refusal) (after : List ℕ) (v : Verdict) → decode_verdict bytes width height (length before) ≡ v
+      → verdict_of r ≡ v → after ≡ laid v (bitmap_of bytes) before → Decoding bytes width height before r after
   answer r after v e o s =
       record {
         answered = o ∙ sym e;
@@ -47,21 +45,11 @@ module _ (bytes : List ℕ) (width height : ℕ) (before : List ℕ) where
       → decode_verdict bytes width height (length before) ≡ and_then v (unless 34 (leb (width * height) (length before)))
   verdict-is v e = ap (λ (u : Verdict). and_then u (unless 34 (leb (width * height) (length before)))) (sym e)
 
-  -- the bitmap is refused: nothing is stored
-  pub refused-bitmap : (r : Decoded) (k : ℕ) → outcome r ≡ (reading_of bytes width height).verdict → outcome r ≡ refused k
-      → Decoding bytes width height before r before
-  refused-bitmap r k e o = answer r before (refused k) (verdict-is (refused k) (sym o ∙ e)) o refl
-
-  -- too few pixels are lent: nothing is stored
-  pub too_small : accepted ≡ (reading_of bytes width height).verdict → length before < width * height
-      → Decoding bytes width height before (Refused BufferTooSmall) before
-  too_small e h = answer (Refused BufferTooSmall) before (refused 34) (verdict-is accepted e ∙ ap (unless 34) (lt-leb _ _ h)) refl refl
-
   -- the bitmap fills the part that is lent for it, and comes back whole
   pub stored-bitmap : (part : List ℕ) → accepted ≡ (reading_of bytes width height).verdict → width * height ≤ length before
-      → part ≡ padded_to (length (take (width * height) before)) (bitmap_of bytes) → Decoding bytes width height before Accepted (part ++ drop (width * height) before)
+      → part ≡ padded_to (length (take (width * height) before)) (bitmap_of bytes) → Decoding bytes width height before (Ok tt) (part ++ drop (width * height) before)
   stored-bitmap part e h is =
-      answer Accepted (part ++ drop (width * height) before) accepted (verdict-is accepted e ∙ ap (unless 34) (le-leb _ _ h)) refl
+      answer (Ok tt) (part ++ drop (width * height) before) accepted (verdict-is accepted e ∙ ap (unless 34) (le-leb _ _ h)) refl
       (rw (is, padded-whole (bitmap_of bytes) (length (take (width * height) before)) fills, bitmap-area bytes width height (sym e)))
     where
       fills : length (bitmap_of bytes) ≡ length (take (width * height) before)

@@ -1,21 +1,25 @@
 -- Reading a bitmap from a place of its data on: one law for each thing that can stand there.
 -- Assumes nothing.
 use mathlib.Core.Path.{◌≡◌, refl, ◌∙◌, sym, ap, ap₂}
-use mathlib.Core.Bool.{true, false}
+use mathlib.Core.Bool.{Bool, true, false}
 use mathlib.Core.List.{List, [], ◌∷◌, ◌++◌}
-use Prim.Native.Nat.{ℕ, ◌+◌, ◌-◌, ◌≤◌, ◌<◌}
+use Prim.Native.Nat.{ℕ, ◌+◌, ◌≤◌, ◌<◌}
 use native.Mathlib.Decide.{dec_lt}
 use native.Mathlib.Omega.{arith}
 use lib.ListN.{length, get_or, drop, replicate, length-drop}
 use lib.Seq.{drop-drop}
-use borrow.Author.Tests.{le-leb, lt-leb, lt-ltb, le-ltb, eq-eqb, ne_eqb}
+use borrow.Author.Tests.{eqb-true, eqb-false, le-leb, lt-leb, lt-ltb, le-ltb, eq-eqb, ne_eqb}
 use lib.Dec.{eqb}
-use Rattle.pgs_base.specs.Outcome.{Verdict, refused, unless}
+use Rattle.pgs_base.specs.Outcome.{Verdict, refused, unless, pick}
 use Rattle.pgs_run_length.specs.RunLength.{Code, run, line_end, none, found, truncated, code_of, run_of, Codes, and_further, codes_of, pixels_of}
 use Rattle.pgs_bitmap_check.specs.Bitmap.{Reading, counted, stopped, last_line_counts, at_end, read_from, read_on, reading_of, bitmap_of}
-use Rattle.pgs_bitmap_check.specs.Progress.{Reached, Ran, Stepped}
-use Rattle.pgs_bitmap_check.specs.declared.bitmap.Step.{Step}
-use Rattle.pgs_bitmap_check.specs.declared.bitmap.Step.TheVariants.{To, Refused}
+use Rattle.std.specs.Prelude.{Result, Ok, Err}
+use Rattle.pgs_base.specs.Refusals.{number_of}
+use Rattle.pgs_base.specs.declared.refusal.Refusal.{Refusal}
+use Rattle.pgs_run_length.specs.declared.code.Run.{Run}
+use Rattle.pgs_bitmap_check.specs.Progress.{further, verdict_from, IsInside, Reached, Ran, Ended, Stepped}
+use Rattle.pgs_bitmap_check.specs.declared.bitmap.Size.{Size}
+use Rattle.pgs_bitmap_check.specs.declared.bitmap.Place.{Place}
 use Rattle.pgs_run_length.proofs.AllCodes.{taken-bounds, codes-are}
 use Rattle.pgs_run_length.proofs.Places.{left-none}
 use Rattle.pgs_run_length.proofs.OneCode.{escape-line-end, escape-among, code-escape}
@@ -120,64 +124,65 @@ module _ (width height lines column : ℕ) where
   pub end-plain : last_line_counts width column ≡ false → column ≡ 0 → at_end width height lines column ≡ unless 32 (eqb lines height)
   end-plain e h = rw (e, eq-eqb _ _ h)
 
-pub reached-start : (l : List ℕ) (width height : ℕ) → Reached l width height 0 0 0 (reading_of l width height).verdict
-reached-start l width height = record { within = omega arith; few = omega arith; narrow = omega arith; same = refl }
-
-module _ {l : List ℕ} {width height lines column at : ℕ} {v : Verdict} where
-  pub reached-run : {count color n : ℕ} → Reached l width height lines column at v → code_of (drop at l) ≡ found (run count color) n
-      → column + count ≤ width → Reached l width height lines (column + count) (at + n) v
+-- what a place is where the check has come to it
+module _ {l : List ℕ} {size : Size} {place : Place} {v : Verdict} where
+  pub reached-run : {count color n : ℕ} → Reached l size place v → code_of (drop place.at l) ≡ found (run count color) n
+      → place.column + count ≤ size.width → Reached l size (further place count n) v
   reached-run r e h =
       record {
-        within = (taken_at l at r.within e).1;
-        few = r.few;
-        narrow = h;
-        same = sym (ap (λ (x : Reading). x.verdict) (read-run width height lines column l at e h)) ∙ r.same;
+        inside = record { within = (taken_at l place.at r.inside.within e).1; few = r.inside.few; narrow = h };
+        same = sym (ap (λ (x : Reading). x.verdict) (read-run size.width size.height place.lines place.column l place.at e h)) ∙ r.same;
       }
 
-  pub reached-line : {n : ℕ} → Reached l width height lines column at v → code_of (drop at l) ≡ found line_end n
-      → column ≡ width → lines < height → Reached l width height (lines + 1) 0 (at + n) v
+  pub reached-line : {n : ℕ} → Reached l size place v → code_of (drop place.at l) ≡ found line_end n
+      → place.column ≡ size.width → place.lines < size.height → Reached l size (record { lines = place.lines + 1; column = 0; at = place.at + n }) v
   reached-line r e h k =
       record {
-        within = (taken_at l at r.within e).1;
-        few = omega arith;
-        narrow = omega arith;
-        same = sym (ap (λ (x : Reading). x.verdict) (read-line width height lines column l at e h k)) ∙ r.same;
+        inside = record { within = (taken_at l place.at r.inside.within e).1; few = omega arith; narrow = omega arith };
+        same = sym (ap (λ (x : Reading). x.verdict) (read-line size.width size.height place.lines place.column l place.at e h k)) ∙ r.same;
       }
 
-  -- what stops the reading at the place is the verdict
-  stops : {u : Verdict} → Reached l width height lines column at v → read_on width height lines column (drop at l) ≡ stopped u
-      → u ≡ v
-  stops r e = sym (ap (λ (x : Reading). x.verdict) e) ∙ r.same
+  pub reached-truncated : {k : ℕ} → Reached l size place v → code_of (drop place.at l) ≡ truncated k → refused k ≡ v
+  reached-truncated r e = sym (ap (λ (x : Reading). x.verdict) (read-truncated size.width size.height place.lines place.column l place.at e)) ∙ r.same
 
-  pub reached-past-width : {count color n : ℕ} → Reached l width height lines column at v → code_of (drop at l) ≡ found (run count color) n
-      → width < column + count → refused 24 ≡ v
-  reached-past-width r e h = stops r (read-past-width width height lines column l at e h)
+  pub reached-end : Reached l size place v → code_of (drop place.at l) ≡ none
+      → at_end size.width size.height place.lines place.column ≡ v
+  reached-end r e = sym (ap (λ (x : Reading). x.verdict) (read-end size.width size.height place.lines place.column l place.at e)) ∙ r.same
 
-  pub reached-short-line : {n : ℕ} → Reached l width height lines column at v → code_of (drop at l) ≡ found line_end n
-      → (column ≡ width → ⊥) → refused 29 ≡ v
-  reached-short-line r e h = stops r (read-short-line width height lines column l at e h)
+-- reading on from a place comes to what it comes to
+reached_here : {l : List ℕ} {size : Size} {place : Place} → IsInside l size place → Reached l size place (verdict_from l size place)
+reached_here inside = record { inside = inside; same = refl }
 
-  pub reached-extra-line : {n : ℕ} → Reached l width height lines column at v → code_of (drop at l) ≡ found line_end n
-      → column ≡ width → height ≤ lines → refused 30 ≡ v
-  reached-extra-line r e h k = stops r (read-extra-line width height lines column l at e h k)
-
-  pub reached-truncated : {k : ℕ} → Reached l width height lines column at v → code_of (drop at l) ≡ truncated k
-      → refused k ≡ v
-  reached-truncated r e = stops r (read-truncated width height lines column l at e)
-
-  pub reached-end : Reached l width height lines column at v → code_of (drop at l) ≡ none
-      → at_end width height lines column ≡ v
-  reached-end r e = stops r (read-end width height lines column l at e)
+pub reached-start : (l : List ℕ) (size : Size)
+    → Reached l size (record { lines = 0; column = 0; at = 0 }) (reading_of l size.width size.height).verdict
+reached-start l size = reached_here (record { within = omega arith; few = omega arith; narrow = omega arith })
 
 -- one code further on: what reading on comes to there, it comes to here
-pub reached-step : {l : List ℕ} {width height lines column at lines' column' at' : ℕ} {v : Verdict} → Reached l width height lines column at v
-    → Reached l width height lines' column' at' (read_on width height lines column (drop at l)).verdict → Reached l width height lines' column' at' v
-reached-step here there = record { within = there.within; few = there.few; narrow = there.narrow; same = there.same ∙ here.same }
+pub reached-step : {l : List ℕ} {size : Size} (place : Place) {to : Place} {v : Verdict} → verdict_from l size place ≡ v
+    → Reached l size to (verdict_from l size place) → Reached l size to v
+reached-step place before there = record { inside = there.inside; same = there.same ∙ before }
 
--- the step after a run
-pub ran-stepped : {l : List ℕ} {width height lines column at count color n : ℕ} (step : Step)
-    → Reached l width height lines column at (read_on width height lines column (drop at l)).verdict
-    → code_of (drop at l) ≡ found (run count color) n → Ran width lines column at count n step → Stepped l width height lines column at step
-ran-stepped {l} {at = at} (To p) here e ran =
-    (omega (arith, (taken_at l at here.within e).0, ran.3), rw (ran.1, ran.2, ran.3) (reached-run here e ran.0))
-ran-stepped (Refused why) here e ran = ap refused ran.1 ∙ reached-past-width here e ran.0
+-- the step after a code: a run, or the end of a line
+module _ {l : List ℕ} {size : Size} {place : Place} (inside : IsInside l size place) where
+  pub ran-stepped : (a : Run) (step : Result Place Refusal) → code_of (drop place.at l) ≡ found (run a.count a.color) a.taken
+      → Ran size place a step → Stepped l size place step
+  ran-stepped a (Ok to) e ran =
+      rw ran.1 (omega (arith, (taken_at l place.at inside.within e).0), reached-run (reached_here inside) e ran.0)
+  ran-stepped a (Err why) e ran =
+      ap refused ran.1
+      ∙ sym (ap (λ (x : Reading). x.verdict) (read-past-width size.width size.height place.lines place.column l place.at e ran.0))
+
+  pub ended-stepped : (step : Result Place Refusal) → code_of (drop place.at l) ≡ found line_end 2
+      → Ended size place step → Stepped l size place step
+  ended-stepped (Ok to) e ended = rw ended.2 (omega arith, reached-line (reached_here inside) e ended.0 ended.1)
+  ended-stepped (Err why) e ended = go (eqb place.column size.width) refl
+    where
+      go : (full : Bool) → eqb place.column size.width ≡ full → refused (number_of why) ≡ verdict_from l size place
+      go true f =
+          ap refused (ended.1 ∙ ap (λ (b : Bool). pick b 30 29) f)
+          ∙ sym (ap (λ (x : Reading). x.verdict)
+          (read-extra-line size.width size.height place.lines place.column l place.at e (eqb-true _ _ f) (ended.0 (eqb-true _ _ f))))
+      go false f =
+          ap refused (ended.1 ∙ ap (λ (b : Bool). pick b 30 29) f)
+          ∙ sym (ap (λ (x : Reading). x.verdict)
+          (read-short-line size.width size.height place.lines place.column l place.at e (eqb-false _ _ f)))

@@ -1,3 +1,2 @@
 pub mod Bitmap
-pub mod Outcomes
 pub mod Progress

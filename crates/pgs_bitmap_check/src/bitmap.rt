@@ -1,24 +1,41 @@
 // The check of a bitmap's run-length code: lines of exactly width pixels, height of them.
 ghost use Rattle.std.specs.Prelude.{◌≡◌, true, ◌+◌, ◌-◌, ◌^◌, ◌≤◌, ◌<◌, length, get_or, drop, eqb};
-ghost use Rattle.pgs_base.specs.Outcome.{unless};
-ghost use Rattle.pgs_run_length.specs.RunLength.{line_end, found, code_of};
+ghost use Rattle.pgs_base.specs.Outcome.{verdict_of, unless};
+ghost use Rattle.pgs_run_length.specs.RunLength.{code_of};
 ghost use Rattle.pgs_run_length.specs.NextCode.{first_code};
 ghost use Rattle.pgs_run_length.specs.Literals.{Literals};
-ghost use Rattle.pgs_bitmap_check.specs.Bitmap.{last_line_counts, at_end, read_on, reading_of};
-ghost use Rattle.pgs_bitmap_check.specs.Outcomes.{outcome};
-ghost use Rattle.pgs_bitmap_check.specs.Progress.{Ran, Stepped, Onward};
+ghost use Rattle.pgs_bitmap_check.specs.Bitmap.{last_line_counts, at_end, reading_of};
+ghost use Rattle.pgs_bitmap_check.specs.Progress.{further, verdict_from, IsInside, Ran, Ended, Stepped, Onward};
 
 use pgs_base::refusal::Refusal;
-use pgs_run_length::code::{CodeAt, NextCode, eight_literals, long_count, next_code, short_count};
+use pgs_run_length::code::{Code, Run, eight_literals, long_count, next_code, short_count};
 
-// What reading a bitmap comes to.
+// How many pixels a line has, and how many lines a bitmap.
 #[derive(Clone, Copy)]
-pub enum Decoded {
-    Accepted,
-    Refused(Refusal),
+struct Size {
+    width: u16,
+    height: u16,
 }
 
-// Where reading stands after a code: the lines ended, the pixels after them, the place of the next code.
+impl Size {
+    // An unterminated line of width pixels counts if the width is not 0.
+    fn last_line_counts(self, column: usize) -> bool
+        ensures { result ≡ last_line_counts self.width column }
+    {
+        column == usize::from(self.width) && self.width != 0
+    }
+
+    fn line_count(self, lines: usize) -> Result<(), Refusal>
+        ensures { verdict_of result ≡ unless 32 (eqb lines self.height) }
+    {
+        if lines != usize::from(self.height) {
+            return Err(Refusal::LineCountMismatch);
+        }
+        Ok(())
+    }
+}
+
+// Where reading stands: the lines ended, the pixels after them, which may be more than the width, and the place of the next code.
 #[derive(Clone, Copy)]
 struct Place {
     lines: usize,
@@ -26,110 +43,121 @@ struct Place {
     at: usize,
 }
 
-#[derive(Clone, Copy)]
-enum Step {
-    To(Place),
-    Refused(Refusal),
-}
-
-// An unterminated line of width pixels counts if the width is not 0.
-fn last_line_counts(width: usize, column: usize) -> bool
-    ensures { result ≡ last_line_counts width column }
-{
-    column == width && width != 0
-}
-
-fn line_count(lines: usize, height: usize) -> Decoded
-    ensures { outcome result ≡ unless 32 (eqb lines height) }
-{
-    if lines != height {
-        return Decoded::Refused(Refusal::LineCountMismatch);
+impl Place {
+    // So many pixels further on in the line, after so many bytes.
+    fn further(self, pixels: usize, bytes: usize) -> Place
+        requires { (self.column + pixels < 2 ^ 64) × (self.at + bytes < 2 ^ 64) }
+        ensures { result ≡ further self pixels bytes }
+    {
+        Place {
+            lines: self.lines,
+            column: self.column + pixels,
+            at: self.at + bytes,
+        }
     }
-    Decoded::Accepted
-}
 
-// The end of the data, with so many lines ended and so many pixels after them.
-fn end_of_data(width: usize, height: usize, lines: usize, column: usize) -> Decoded
-    requires { (lines ≤ height) × (height < 65536) }
-    ensures { outcome result ≡ at_end width height lines column }
-{
-    if last_line_counts(width, column) {
-        return line_count(lines + 1, height);
+    // The end of the data.
+    fn end_of_data(self, size: Size) -> Result<(), Refusal>
+        requires { self.lines ≤ size.height }
+        ensures { verdict_of result ≡ at_end size.width size.height self.lines self.column }
+    {
+        if size.last_line_counts(self.column) {
+            return size.line_count(self.lines + 1);
+        }
+        if self.column != 0 {
+            return Err(Refusal::PartialLastLine);
+        }
+        size.line_count(self.lines)
     }
-    if column != 0 {
-        return Decoded::Refused(Refusal::PartialLastLine);
-    }
-    line_count(lines, height)
-}
 
-// Goes on after a run of so many pixels whose code takes so many bytes.
-fn pass_run(
-    width: usize,
-    lines: usize,
-    column: usize,
-    at: usize,
-    count: usize,
-    taken: usize,
-) -> Step
-    requires { (column ≤ width) × (at + taken < 2 ^ 64) }
-    ensures { Ran width lines column at count taken result }
-{
-    if width - column < count {
-        return Step::Refused(Refusal::RunPastWidth);
+    // Goes on after a run.
+    fn pass_run(self, size: Size, run: Run) -> Result<Place, Refusal>
+        requires { (self.column ≤ size.width) × (self.at + run.taken < 2 ^ 64) }
+        ensures { Ran size self run result }
+    {
+        if usize::from(size.width) - self.column < run.count {
+            return Err(Refusal::RunPastWidth);
+        }
+        Ok(self.further(run.count, run.taken))
     }
-    Step::To(Place {
-        lines: lines,
-        column: column + count,
-        at: at + taken,
-    })
-}
 
-// Goes on after the end of a line, which is the code at a place.
-fn end_line(
-    data: &[u8],
-    width: usize,
-    height: usize,
-    lines: usize,
-    column: usize,
-    at: usize,
-) -> Step
-    requires { (code_of (drop at «data».now) ≡ found line_end 2) × (at ≤ length «data».now) × (column ≤ width) × (lines ≤ height) × (height < 65536) }
-    ensures { Stepped «data».now width height lines column at result }
-{
-    if column != width {
-        return Step::Refused(Refusal::ShortLine);
+    // Goes on after the end of a line.
+    fn end_line(self, size: Size) -> Result<Place, Refusal>
+        requires { self.at + 2 < 2 ^ 64 }
+        ensures { Ended size self result }
+    {
+        if self.column != usize::from(size.width) {
+            return Err(Refusal::ShortLine);
+        }
+        if usize::from(size.height) <= self.lines {
+            return Err(Refusal::TooManyLines);
+        }
+        Ok(Place {
+            lines: self.lines + 1,
+            column: 0,
+            at: self.at + 2,
+        })
     }
-    if height <= lines {
-        return Step::Refused(Refusal::TooManyLines);
-    }
-    Step::To(Place {
-        lines: lines + 1,
-        column: 0,
-        at: at + 2,
-    })
-}
 
-// Goes on after the code at a place, with so many lines ended and so many pixels after them.
-fn after_code(
-    data: &[u8],
-    width: usize,
-    height: usize,
-    lines: usize,
-    column: usize,
-    at: usize,
-    code: NextCode,
-) -> Step
-    requires { (first_code code ≡ code_of (drop at «data».now)) × (at ≤ length «data».now) × (column ≤ width) × (lines ≤ height) × (height < 65536) }
-    ensures { Stepped «data».now width height lines column at result }
-{
-    match code {
-        NextCode::Run {
-            count,
-            color: _,
-            taken,
-        } => pass_run(width, lines, column, at, count, taken),
-        NextCode::LineEnd => end_line(data, width, height, lines, column, at),
-        NextCode::Truncated(why) => Step::Refused(why),
+    // Goes on after the code that stands here.
+    fn after_code(self, data: &[u8], size: Size, code: Code) -> Result<Place, Refusal>
+        requires { (first_code (Ok code) ≡ code_of (drop self.at «data».now)) × IsInside «data».now size self }
+        ensures { Stepped «data».now size self result }
+    {
+        match code {
+            Code::Run(run) => self.pass_run(size, run),
+            Code::LineEnd => self.end_line(size),
+        }
+    }
+
+    // Goes on after up to two bytes that are one pixel each.
+    fn pixels_at(self, data: &[u8]) -> Place
+        requires { (self.at + 2 ≤ length «data».now) × (self.column < 2 ^ 50) }
+        ensures { (result.column ≤ self.column + 2) × Onward «data».now self result }
+    {
+        if data[self.at] == 0 {
+            return self;
+        }
+        if data[self.at + 1] == 0 {
+            return self.further(1, 1);
+        }
+        self.further(2, 2)
+    }
+
+    // Goes on after a byte that is one pixel, and after a short run of a color and pixels behind it, which mostly follow.
+    fn stroke_at(self, data: &[u8]) -> Place
+        requires { (self.at + 6 ≤ length «data».now) × (self.column < 2 ^ 49) }
+        ensures { (result.column ≤ self.column + 128) × Onward «data».now self result }
+    {
+        if data[self.at] == 0 {
+            return self;
+        }
+        let next = self.at + 1;
+        if short_color_at(data, next) {
+            let count = short_count(data[next + 1]);
+            return self.further(1 + count, 4).pixels_at(data);
+        }
+        self.further(1, 1)
+    }
+
+    // Goes on after the run of a code that begins with the byte 00, and what mostly follows it, where no code has bytes missing.
+    fn run_at(self, data: &[u8]) -> Place
+        requires { (self.at + 9 ≤ length «data».now) × (get_or «data».now self.at 0 ≡ 0) × (get_or «data».now (self.at + 1) 0 ≡ 0 → ⊥) × (self.column < 2 ^ 48) }
+        ensures { (self.at < result.at) × (result.column ≤ self.column + 65536) × Onward «data».now self result }
+    {
+        let second = data[self.at + 1];
+        if second < 0x40 {
+            return self.further(short_count(second), 2).stroke_at(data);
+        }
+        if second < 0x80 {
+            return self
+                .further(long_count(second, data[self.at + 2]), 3)
+                .stroke_at(data);
+        }
+        if second < 0xC0 {
+            return self.further(short_count(second), 3).pixels_at(data);
+        }
+        self.further(long_count(second, data[self.at + 2]), 4)
     }
 }
 
@@ -149,10 +177,11 @@ fn short_color_at(data: &[u8], at: usize) -> bool
 fn at_once(left: usize) -> usize
     ensures { (result ≤ left) × (result ≤ 65536) }
 {
-    if left < 65536 { left } else { 65536 }
+    left.min(65536)
 }
 
 // So many bytes from a place on are one pixel each: counted by eights, up to an eight that has a byte 00.
+// Stays a loop: the chain `8 * data[at..at + most].chunks_exact(8).take_while(..).count()` would write the test of `eight_literals` again.
 fn literals_by_eight(data: &[u8], at: usize) -> usize
     requires { at ≤ length «data».now }
     ensures { (at + result ≤ length «data».now) × (result ≤ 65536) × Literals «data».now at result }
@@ -186,114 +215,16 @@ fn literals_from(data: &[u8], at: usize) -> usize
     4 + literals_by_eight(data, at + 4)
 }
 
-// Where reading stands in a line after some codes: its pixels, which may be more than the width, and the place of the next code.
-#[derive(Clone, Copy)]
-struct Mark {
-    column: usize,
-    at: usize,
-}
-
-// Goes on after up to two bytes that are one pixel each.
-fn pixels_at(data: &[u8], column: usize, at: usize) -> Mark
-    requires { (at + 2 ≤ length «data».now) × (column < 2 ^ 50) }
-    ensures { (result.column ≤ column + 2) × Onward «data».now column at result.column result.at }
+// Reads the codes from a place on, a code at a time.
+fn check_rest(data: &[u8], size: Size, from: Place) -> Result<(), Refusal>
+    requires { IsInside «data».now size from }
+    ensures { verdict_of result ≡ verdict_from «data».now size from }
 {
-    if data[at] == 0 {
-        return Mark {
-            column: column,
-            at: at,
-        };
+    let mut place = from;
+    while let Some(code) = next_code(data, place.at)? {
+        place = place.after_code(data, size, code)?;
     }
-    if data[at + 1] == 0 {
-        return Mark {
-            column: column + 1,
-            at: at + 1,
-        };
-    }
-    Mark {
-        column: column + 2,
-        at: at + 2,
-    }
-}
-
-// Goes on after a byte that is one pixel, and after a short run of a color and pixels behind it, which mostly follow.
-fn stroke_at(data: &[u8], column: usize, at: usize) -> Mark
-    requires { (at + 6 ≤ length «data».now) × (column < 2 ^ 49) }
-    ensures { (result.column ≤ column + 128) × Onward «data».now column at result.column result.at }
-{
-    if data[at] == 0 {
-        return Mark {
-            column: column,
-            at: at,
-        };
-    }
-    let next = at + 1;
-    if short_color_at(data, next) {
-        return pixels_at(data, column + 1 + short_count(data[next + 1]), next + 3);
-    }
-    Mark {
-        column: column + 1,
-        at: at + 1,
-    }
-}
-
-// Goes on after a run that begins with the byte 00 at a place, and what mostly follows it, where no code has bytes missing.
-fn run_at(data: &[u8], column: usize, at: usize) -> Mark
-    requires { (at + 9 ≤ length «data».now) × (get_or «data».now at 0 ≡ 0) × (get_or «data».now (at + 1) 0 ≡ 0 → ⊥) × (column < 2 ^ 48) }
-    ensures { (at < result.at) × (result.column ≤ column + 65536) × Onward «data».now column at result.column result.at }
-{
-    let second = data[at + 1];
-    if second < 0x40 {
-        return stroke_at(data, column + short_count(second), at + 2);
-    }
-    if second < 0x80 {
-        return stroke_at(data, column + long_count(second, data[at + 2]), at + 3);
-    }
-    if second < 0xC0 {
-        return pixels_at(data, column + short_count(second), at + 3);
-    }
-    Mark {
-        column: column + long_count(second, data[at + 2]),
-        at: at + 4,
-    }
-}
-
-// Reads the codes from a place on, a code at a time, with so many lines ended and so many pixels after them.
-fn check_rest(
-    data: &[u8],
-    width: usize,
-    height: usize,
-    ended: usize,
-    filled: usize,
-    from: usize,
-) -> Decoded
-    requires { (from ≤ length «data».now) × (filled ≤ width) × (ended ≤ height) × (height < 65536) }
-    ensures { outcome result ≡ (read_on width height ended filled (drop from «data».now)).verdict }
-{
-    let mut lines: usize = ended;
-    let mut column: usize = filled;
-    let mut at: usize = from;
-    loop {
-        let found = next_code(data, at);
-        match found {
-            CodeAt::Nothing => {
-                return end_of_data(width, height, lines, column);
-            }
-            CodeAt::Code(code) => {
-                let step = after_code(data, width, height, lines, column, at, code);
-                match step {
-                    Step::To(place) => {
-                        lines = place.lines;
-                        column = place.column;
-                        at = place.at;
-                    }
-                    Step::Refused(why) => {
-                        return Decoded::Refused(why);
-                    }
-                }
-            }
-        }
-    }
+    place.end_of_data(size)
 }
 
 // At each place before this one nine bytes are left, so that no code read in one turn has bytes missing. It is at most 2^32, so that the
@@ -301,61 +232,43 @@ fn check_rest(
 fn places(length: usize) -> usize
     ensures { (result ≤ length - 8) × (result ≤ 2 ^ 32) }
 {
-    if length < 9 {
-        return 0;
-    }
-    let all = length - 8;
-    if all < 0x1_0000_0000 {
-        all
-    } else {
-        0x1_0000_0000
-    }
+    length.saturating_sub(8).min(0x1_0000_0000)
 }
 
 // Reads the codes through. The width is tested at the end of each line and of the data, not for each run, which makes this loop fast.
-fn check_codes(data: &[u8], width: usize, height: usize) -> Decoded
-    requires { (width < 65536) × (height < 65536) }
-    ensures { outcome result ≡ (reading_of «data».now width height).verdict }
+// Stays a loop: the step is the size of the codes just read, which no range counts.
+fn check_codes(data: &[u8], size: Size) -> Result<(), Refusal>
+    ensures { verdict_of result ≡ (reading_of «data».now size.width size.height).verdict }
 {
-    let mut lines: usize = 0;
-    let mut column: usize = 0;
-    let mut at: usize = 0;
+    let width = usize::from(size.width);
+    let mut place = Place {
+        lines: 0,
+        column: 0,
+        at: 0,
+    };
     let limit = places(data.len());
-    while at < limit {
-        let second = data[at + 1];
-        if data[at] != 0 {
-            let n = literals_from(data, at);
-            column += n;
-            at += n;
+    while place.at < limit {
+        let second = data[place.at + 1];
+        if data[place.at] != 0 {
+            let n = literals_from(data, place.at);
+            place = place.further(n, n);
         } else if second != 0 {
-            let mark = run_at(data, column, at);
-            column = mark.column;
-            at = mark.at;
-        } else if width < column {
-            return Decoded::Refused(Refusal::RunPastWidth);
+            place = place.run_at(data);
+        } else if width < place.column {
+            return Err(Refusal::RunPastWidth);
         } else {
-            let step = end_line(data, width, height, lines, column, at);
-            match step {
-                Step::To(place) => {
-                    lines = place.lines;
-                    column = place.column;
-                    at = place.at;
-                }
-                Step::Refused(why) => {
-                    return Decoded::Refused(why);
-                }
-            }
+            place = place.end_line(size)?;
         }
     }
-    if width < column {
-        return Decoded::Refused(Refusal::RunPastWidth);
+    if width < place.column {
+        return Err(Refusal::RunPastWidth);
     }
-    check_rest(data, width, height, lines, column, at)
+    check_rest(data, size, place)
 }
 
 // Reads a bitmap through without storing it.
-pub fn check_rle(data: &[u8], width: u16, height: u16) -> Decoded
-    ensures { outcome result ≡ (reading_of «data».now width height).verdict }
+pub fn check_rle(data: &[u8], width: u16, height: u16) -> Result<(), Refusal>
+    ensures { verdict_of result ≡ (reading_of «data».now width height).verdict }
 {
-    check_codes(data, width as usize, height as usize)
+    check_codes(data, Size { width, height })
 }

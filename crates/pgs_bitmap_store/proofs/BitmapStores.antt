@@ -5,46 +5,37 @@ use mathlib.Core.List.{List, [], ◌∷◌, ◌++◌, append_assoc, append-nil}
 use Prim.Native.Nat.{ℕ, ◌+◌, ◌-◌, ◌≤◌, ◌<◌}
 use native.Mathlib.Decide.{dec_lt}
 use native.Mathlib.Omega.{arith}
-use lib.ListN.{length, get_or, take, drop, set, replicate, length-append, length-replicate, length-set, length-take, length-drop, drop_of_length-le, replicate-append-replicate}
+use lib.ListN.{length, get_or, take, drop, set, replicate, length-append, length-replicate, length-set, length-take, length-drop, replicate-append-replicate}
 use lib.Seq.{length-take-le, take_all, take_at}
 use Rattle.pgs_run_length.specs.RunLength.{run, line_end, none, found, truncated, code_of, run_of}
 use Rattle.pgs_bitmap_check.specs.Bitmap.{bitmap_of}
 use Rattle.pgs_bitmap_store.specs.Padding.{padded_to}
-use Rattle.pgs_bitmap_store.specs.Progress.{Filled, Storing, Stored}
+use Rattle.pgs_bitmap_store.specs.Progress.{further, Filled, Storing, Stored}
+use Rattle.pgs_bitmap_store.specs.declared.bitmap.Spot.{Spot}
 use Rattle.pgs_run_length.proofs.OneCode.{code-pixel}
 use Rattle.pgs_run_length.proofs.AllCodes.{run-taken}
 use Rattle.pgs_bitmap_store.proofs.RunFill.{one-in-front, run-in-front}
 use Rattle.pgs_bitmap_check.proofs.BitmapSteps.{taken_at, pixels-run, pixels-line, pixels-escape, pixels-none, pixels-truncated}
 
--- what filling a run exactly is, where there is room for it
-pub fits-exactly : (before after : List ℕ) (from count color : ℕ) → from + count ≤ length before
-    → take (from + count) after ≡ take from before ++ replicate count color → Filled before from count color (from + count) after
-fits-exactly before after from count color room is =
+-- what filling a run is, or as much of it as there is room for
+pub fits : (before after : List ℕ) (from count color stored : ℕ) → from + stored ≤ length before → stored ≤ count
+    → (stored < count → from + stored ≡ length before)
+    → take (from + stored) after ≡ take from before ++ replicate stored color → Filled before from count color (from + stored) after
+fits before after from count color stored room few all is =
     record {
       order = omega arith;
       inside = room;
       most = omega arith;
-      all = λ h. omega arith;
-      front = is ∙ ap (λ (n : ℕ). take from before ++ replicate n color) {x = count} {y = from + count - from} (omega arith);
+      all = λ h. all (omega arith);
+      front = is ∙ ap (λ (n : ℕ). take from before ++ replicate n color) {x = stored} {y = from + stored - from} (omega arith);
     }
 
 -- and what filling a block is that the run is the front of
 pub block-fills : {before after : List ℕ} {from count color : ℕ} (n : ℕ) → count ≤ n → from + n ≤ length before
     → after ≡ take from before ++ (replicate n color ++ drop n (drop from before)) → Filled before from count color (from + count) after
 block-fills {before} {after} {from} {count} {color} n few room filled =
-    fits-exactly before after from count color (omega arith) (run-in-front before after from count n color few (omega arith) filled)
-
--- and where there is room for a part of it alone
-pub fits-partly : (before after : List ℕ) (from count color room : ℕ) → from + room ≡ length before → room ≤ count
-    → take (from + room) after ≡ take from before ++ replicate room color → Filled before from count color (from + room) after
-fits-partly before after from count color room end few is =
-    record {
-      order = omega arith;
-      inside = omega arith;
-      most = omega arith;
-      all = λ h. end;
-      front = is ∙ ap (λ (n : ℕ). take from before ++ replicate n color) {x = room} {y = from + room - from} (omega arith);
-    }
+    fits before after from count color count (omega arith) (omega arith) (λ h. absurd (omega arith))
+    (run-in-front before after from count n color few (omega arith) filled)
 
 -- a run before what follows, filled as far as there is room: the rest of it and what follows has none
 pub run-with-room : (size out to count color : ℕ) (front rest : List ℕ) → length front ≡ out → out ≤ to → to ≤ out + count → (to < out + count → to ≡ size)
@@ -70,13 +61,14 @@ run-with-room size out to count color front rest long order most all = go (dec_l
         ap (λ (m : ℕ). take size ((front ++ replicate m color) ++ rest)) whole
         ∙ ap (take size) (append_assoc front (replicate count color) rest)
 
-pub storing-start : (l start : List ℕ) → Storing l start 0 0
+pub storing-start : (l start : List ℕ) → Storing l start (record { at = 0; out = 0 })
 storing-start l start = record { within = omega arith; inside = omega arith; done = refl }
 
-module _ {l now : List ℕ} {at out : ℕ} (s : Storing l now at out) where
+module _ {l now : List ℕ} {spot : Spot} (s : Storing l now spot) where
   -- what comes next is a run of pixels, filled as far as there is room
-  next : (count color n : ℕ) {to : ℕ} {after : List ℕ} → at + n ≤ length l → bitmap_of (drop at l) ≡ replicate count color ++ bitmap_of (drop (at + n) l)
-      → length after ≡ length now → Filled now out count color to after → Storing l after (at + n) to
+  next : (count color n : ℕ) {to : ℕ} {after : List ℕ} → spot.at + n ≤ length l
+      → bitmap_of (drop spot.at l) ≡ replicate count color ++ bitmap_of (drop (spot.at + n) l)
+      → length after ≡ length now → Filled now spot.out count color to after → Storing l after (record { at = spot.at + n; out = to })
   next count color n {to} {after} there e same f =
       record {
         within = there;
@@ -84,75 +76,69 @@ module _ {l now : List ℕ} {at out : ℕ} (s : Storing l now at out) where
         done =
             rw same
             (ap (λ (m : List ℕ). take (length now) (m ++ rest)) f.front
-            ∙ run-with-room (length now) out to count color (take out now) rest (length-take-le out now s.inside) f.order f.most f.all
+            ∙ run-with-room (length now) spot.out to count color (take spot.out now) rest (length-take-le spot.out now s.inside) f.order f.most f.all
             ∙ before);
       }
     where
       rest : List ℕ
-      rest = bitmap_of (drop (at + n) l)
+      rest = bitmap_of (drop (spot.at + n) l)
 
-      before : take (length now) (take out now ++ (replicate count color ++ rest)) ≡ take (length now) (bitmap_of l)
-      before = ap (λ (m : List ℕ). take (length now) (take out now ++ m)) (sym e) ∙ s.done
+      before : take (length now) (take spot.out now ++ (replicate count color ++ rest)) ≡ take (length now) (bitmap_of l)
+      before = ap (λ (m : List ℕ). take (length now) (take spot.out now ++ m)) (sym e) ∙ s.done
 
-  pub storing-run : {count color n to : ℕ} {after : List ℕ} → code_of (drop at l) ≡ found (run count color) n → length after ≡ length now
-      → Filled now out count color to after → Storing l after (at + n) to
-  storing-run {count} {color} {n} e same f = next count color n (taken_at l at s.within e).1 (pixels-run l at e) same f
+  pub storing-run : {count color n to : ℕ} {after : List ℕ} → code_of (drop spot.at l) ≡ found (run count color) n → length after ≡ length now
+      → Filled now spot.out count color to after → Storing l after (record { at = spot.at + n; out = to })
+  storing-run {count} {color} {n} e same f = next count color n (taken_at l spot.at s.within e).1 (pixels-run l spot.at e) same f
 
   -- a code that begins with 00, where four bytes are there
-  module _ {count color n : ℕ} (there : at + 3 < length l) (escape : get_or l at 0 ≡ 0)
-      (is : found (run count color) n ≡ run_of (get_or l (at + 1) 0) (get_or l (at + 2) 0 ∷ get_or l (at + 3) 0 ∷ [])) where
-    pub storing-escape : {to : ℕ} {after : List ℕ} → length after ≡ length now → Filled now out count color to after → Storing l after (at + n) to
+  module _ {count color n : ℕ} (there : spot.at + 3 < length l) (escape : get_or l spot.at 0 ≡ 0)
+      (is : found (run count color) n ≡ run_of (get_or l (spot.at + 1) 0) (get_or l (spot.at + 2) 0 ∷ get_or l (spot.at + 3) 0 ∷ [])) where
+    pub storing-escape : {to : ℕ} {after : List ℕ} → length after ≡ length now → Filled now spot.out count color to after
+        → Storing l after (record { at = spot.at + n; out = to })
     storing-escape same f =
-        next count color n (omega (arith, (run-taken (get_or l (at + 1) 0) (get_or l (at + 2) 0) (get_or l (at + 3) 0) is).1)) (pixels-escape l at there escape is) same f
+        next count color n (omega (arith, (run-taken (get_or l (spot.at + 1) 0) (get_or l (spot.at + 2) 0) (get_or l (spot.at + 3) 0) is).1))
+        (pixels-escape l spot.at there escape is) same f
 
   -- one pixel by itself
-  pub storing-pixel : at < length l → (get_or l at 0 ≡ 0 → ⊥) → out < length now → Storing l (set now out (get_or l at 0)) (at + 1) (out + 1)
+  pub storing-pixel : spot.at < length l → (get_or l spot.at 0 ≡ 0 → ⊥) → spot.out < length now
+      → Storing l (set now spot.out (get_or l spot.at 0)) (further spot 1 1)
   storing-pixel here nonzero room =
-      storing-run (code-pixel l at here nonzero) (length-set now out (get_or l at 0))
-      (fits-exactly now (set now out (get_or l at 0)) out 1 (get_or l at 0) (omega arith) (one-in-front now out (get_or l at 0) room))
+      storing-run (code-pixel l spot.at here nonzero) (length-set now spot.out (get_or l spot.at 0))
+      (fits now (set now spot.out (get_or l spot.at 0)) spot.out 1 (get_or l spot.at 0) 1 (omega arith) (omega arith) (λ h. absurd (omega arith))
+      (one-in-front now spot.out (get_or l spot.at 0) room))
 
-  pub storing-line : {n : ℕ} → code_of (drop at l) ≡ found line_end n → Storing l now (at + n) out
+  pub storing-line : {n : ℕ} → code_of (drop spot.at l) ≡ found line_end n → Storing l now (record { at = spot.at + n; out = spot.out })
   storing-line e =
       record {
-        within = (taken_at l at s.within e).1;
+        within = (taken_at l spot.at s.within e).1;
         inside = s.inside;
-        done = rw (← pixels-line l at e) s.done;
+        done = rw (← pixels-line l spot.at e) s.done;
       }
 
   -- nothing is still to come
-  storing-all : bitmap_of (drop at l) ≡ [] → Stored l now out
+  storing-all : bitmap_of (drop spot.at l) ≡ [] → Stored l now spot.out
   storing-all e =
       record {
         inside = s.inside;
         done =
-            sym (take_all (length now) (take out now) (rw (length-take-le out now s.inside) s.inside))
-            ∙ ap (take (length now)) (sym (append-nil (take out now)) ∙ ap (λ (m : List ℕ). take out now ++ m) (sym e))
+            sym (take_all (length now) (take spot.out now) (rw (length-take-le spot.out now s.inside) s.inside))
+            ∙ ap (take (length now)) (sym (append-nil (take spot.out now)) ∙ ap (λ (m : List ℕ). take spot.out now ++ m) (sym e))
             ∙ s.done;
       }
 
-  pub storing-truncated : {k : ℕ} → code_of (drop at l) ≡ truncated k → Stored l now out
-  storing-truncated e = storing-all (pixels-truncated l at e)
+  pub storing-truncated : {k : ℕ} → code_of (drop spot.at l) ≡ truncated k → Stored l now spot.out
+  storing-truncated e = storing-all (pixels-truncated l spot.at e)
 
-  pub storing-end : code_of (drop at l) ≡ none → Stored l now out
-  storing-end e = storing-all (pixels-none l at e)
+  pub storing-end : code_of (drop spot.at l) ≡ none → Stored l now spot.out
+  storing-end e = storing-all (pixels-none l spot.at e)
 
 -- the pixels after those are made 0
 pub stored-padded : (l now after : List ℕ) (end : ℕ) → Stored l now end
-    → after ≡ take end now ++ (replicate (length now - end) 0 ++ drop (length now - end) (drop end now)) → after ≡ padded_to (length now) (bitmap_of l)
-stored-padded l now after end s filled =
-    filled
-    ∙ ap (λ (m : List ℕ). take end now ++ (replicate (length now - end) 0 ++ m)) none
-    ∙ ap (λ (m : List ℕ). take end now ++ m) (append-nil (replicate (length now - end) 0))
-    ∙ ap₂ (λ (m : List ℕ) (n : ℕ). m ++ replicate n 0) s.done left
+    → after ≡ take end now ++ replicate (length (drop end now)) 0 → after ≡ padded_to (length now) (bitmap_of l)
+stored-padded l now after end s filled = filled ∙ ap₂ (λ (m : List ℕ) (n : ℕ). m ++ replicate n 0) s.done left
   where
-    none : drop (length now - end) (drop end now) ≡ []
-    none = drop_of_length-le (drop end now) past
-      where
-        past : length (drop end now) ≤ length now - end
-        past = omega (arith, length-drop end now)
-
     size : end ≡ length (take (length now) (bitmap_of l))
     size = sym (length-take-le end now s.inside) ∙ ap length s.done
 
-    left : length now - end ≡ length now - length (bitmap_of l)
-    left = omega (arith, size, length-take (length now) (bitmap_of l))
+    left : length (drop end now) ≡ length now - length (bitmap_of l)
+    left = omega (arith, size, length-drop end now, length-take (length now) (bitmap_of l))

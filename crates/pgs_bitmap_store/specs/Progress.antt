@@ -1,6 +1,11 @@
 -- How far storing a bitmap has come, for the contracts of private functions.
 use Rattle.std.specs.Prelude.{◌≡◌, List, ◌++◌, ℕ, ◌+◌, ◌-◌, ◌≤◌, ◌<◌, length, take, drop, replicate}
 use Rattle.pgs_bitmap_check.specs.Bitmap.{bitmap_of}
+use Rattle.pgs_bitmap_store.specs.declared.bitmap.Spot.{Spot}
+
+-- so many pixels further on, after so many bytes
+abbrev pub further : Spot → (pixels bytes : ℕ) → Spot
+further spot pixels bytes = record { at = spot.at + bytes; out = spot.out + pixels }
 
 -- A run is filled from a place on as far as there is room, to the place `to`.
 pub record Filled (before : List ℕ) (from count color to : ℕ) (after : List ℕ) : Type 0 where
@@ -10,11 +15,11 @@ pub record Filled (before : List ℕ) (from count color to : ℕ) (after : List 
   pub all : to < from + count → to ≡ length before
   pub front : take to after ≡ take from before ++ replicate (to - from) color
 
--- The pixels of the codes before a place are stored at the front; those from the place on are still to come, as many as there is room for.
-pub record Storing (bytes now : List ℕ) (at out : ℕ) : Type 0 where
-  pub within : at ≤ length bytes
-  pub inside : out ≤ length now
-  pub done : take (length now) (take out now ++ bitmap_of (drop at bytes)) ≡ take (length now) (bitmap_of bytes)
+-- The pixels of the codes before a spot are stored at the front; those from the spot on are still to come, as many as there is room for.
+pub record Storing (bytes now : List ℕ) (spot : Spot) : Type 0 where
+  pub within : spot.at ≤ length bytes
+  pub inside : spot.out ≤ length now
+  pub done : take (length now) (take spot.out now ++ bitmap_of (drop spot.at bytes)) ≡ take (length now) (bitmap_of bytes)
 
 -- all pixels that there is room for are stored, and fill the front up to a place
 pub record Stored (bytes now : List ℕ) (end : ℕ) : Type 0 where

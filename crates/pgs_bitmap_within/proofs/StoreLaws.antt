@@ -12,7 +12,7 @@ use Rattle.pgs_bitmap_check.proofs.BitmapSteps.{pixels-end}
 use Rattle.pgs_bitmap_store.proofs.BitmapStores.{run-with-room}
 use Rattle.pgs_bitmap_within.specs.Within.{part_at, put_at, shown_from}
 use Rattle.pgs_bitmap_within.specs.Storing.{Ahead, Room}
-use Rattle.pgs_bitmap_within.specs.declared.within.RunAhead.{RunAhead}
+use Rattle.pgs_run_length.specs.declared.code.Run.{Run}
 
 -- a part by the front that holds it
 part-of-front : (l : List ℕ) (place len at : ℕ) → place + len ≤ at → at ≤ length l
@@ -62,7 +62,7 @@ module _ {start : List ℕ} {place len at : ℕ} (r : Room start place len at) w
     pub byte-there : from < len → from < length (part_at now place (place + len - place))
     byte-there h = rw part_stays (omega (arith, part_length))
 
-    module _ {ahead : RunAhead} (a : Ahead (part_at now place (place + len - place)) from ahead) where
+    module _ {ahead : Run} (a : Ahead (part_at now place (place + len - place)) from ahead) where
       abbrev here : Ahead (part_at start place len) from ahead
       here = rw part_stays at a
 

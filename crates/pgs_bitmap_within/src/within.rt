@@ -1,77 +1,33 @@
 // Storing the pixels of a bitmap further on in the memory that its data stands in. The data is lent for one code at a time, so that the memory
 // can be stored to in between.
-ghost use Rattle.std.specs.Prelude.{◌≡◌, ◌≤◌, ◌<◌, length, replicate};
+ghost use Rattle.std.specs.Prelude.{◌≡◌, ◌<◌, length};
 ghost use Rattle.pgs_bitmap_check.specs.Bitmap.{bitmap_of};
 ghost use Rattle.pgs_bitmap_within.specs.Within.{part_at, put_at, room_for, shown_from, stored_within};
 ghost use Rattle.pgs_bitmap_within.specs.Storing.{Ahead, Room};
 
-use pgs_run_length::code::{CodeAt, NextCode, next_code};
-
-// Pixels of one color, and the bytes of data that tell them.
-#[derive(Clone, Copy)]
-struct RunAhead {
-    count: usize,
-    color: u8,
-    taken: usize,
-}
+use pgs_run_length::code::{Code, Run, next_code};
 
 // The pixels of the code at a place, none for a line end. Where there is no code there are no pixels further on, and all that is left
 // is taken.
-fn next_run(data: &[u8], from: usize) -> RunAhead
+fn next_run(data: &[u8], from: usize) -> Run
     requires { from < length «data».now }
     ensures { Ahead «data».now from result }
 {
-    let left = data.len() - from;
-    let found = next_code(data, from);
-    let CodeAt::Code(code) = found else {
-        return RunAhead {
-            count: 0,
-            color: 0,
-            taken: left,
-        };
+    let none = Run {
+        count: 0,
+        color: 0,
+        taken: data.len() - from,
     };
-    match code {
-        NextCode::Run {
-            count,
-            color,
-            taken,
-        } => RunAhead {
-            count: count,
-            color: color,
-            taken: taken,
-        },
-        NextCode::LineEnd => RunAhead {
-            count: 0,
-            color: 0,
-            taken: 2,
-        },
-        NextCode::Truncated(_) => RunAhead {
-            count: 0,
-            color: 0,
-            taken: left,
-        },
+    match next_code(data, from) {
+        Ok(Some(Code::Run(run))) => run,
+        Ok(Some(Code::LineEnd)) => Run { taken: 2, ..none },
+        Ok(None) => none,
+        Err(_) => none,
     }
-}
-
-// Makes all pixels of a part one color.
-fn fill(pixels: &mut [u8], color: u8)
-    ensures { pixels.new ≡ replicate (length pixels.old) color }
-{
-    let mut i: usize = 0;
-    while i < pixels.len() {
-        pixels[i] = color;
-        i += 1;
-    }
-}
-
-// The smaller of two numbers.
-fn fewer(a: usize, b: usize) -> usize
-    ensures { (result ≤ a) × (result ≤ b) × (result < a → result ≡ b) }
-{
-    if b < a { b } else { a }
 }
 
 // Stores as many pixels of the data as there is room for.
+// Stays a loop: the step is the size of the code just read, which no range counts.
 fn store_codes(memory: &mut [u8], place: usize, len: usize, at: usize)
     requires { Room memory.old place len at }
     ensures { memory.new ≡ put_at at (length (shown_from (length memory.old) at (bitmap_of (part_at memory.old place len)))) (shown_from (length memory.old) at (bitmap_of (part_at memory.old place len))) memory.old }
@@ -81,9 +37,8 @@ fn store_codes(memory: &mut [u8], place: usize, len: usize, at: usize)
     let mut out: usize = at;
     while from < len {
         let next = next_run(&memory[place..end], from);
-        let color = next.color;
-        let to = out + fewer(next.count, memory.len() - out);
-        fill(&mut memory[out..to], color);
+        let to = out + next.count.min(memory.len() - out);
+        memory[out..to].fill(next.color);
         out = to;
         from += next.taken;
     }

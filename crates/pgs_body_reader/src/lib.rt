@@ -1,125 +1,72 @@
-// The body reader of 01 in the form that it names: a struct that holds the body and its position. Its methods are proved as every
-// function is, and so is a function that makes a reader, keeps it in a local or lends it. A method has no branch: what is left and
-// what a read gives is found by functions on the body and the position.
+// The body reader of 01 in the form that it names: a struct that holds the body and its position.
 #![tactic(auto)]
 
-ghost use Rattle.std.specs.Prelude.{◌≡◌, ◌-◌, ◌<◌, length, drop};
-ghost use Rattle.pgs_cursor.specs.Cursor.{outcome, taken_at};
-ghost use Rattle.pgs_body_reader.specs.Reader.{Taking, at_start, left_of, Reads, Rests};
+ghost use Rattle.std.specs.Prelude.{◌≡◌};
+ghost use Rattle.pgs_base.specs.Outcome.{outcome};
+ghost use Rattle.pgs_cursor.specs.Cursor.{taken};
+ghost use Rattle.pgs_body_reader.specs.Reader.{number_or, place_or, at_start, left_of, Reads, Rests};
 
 use pgs_base::refusal::Refusal;
-use pgs_cursor::cursor::{BodyCursor, Taken};
+use pgs_cursor::cursor::BodyCursor;
 
-#[derive(Clone, Copy)]
+#[derive(Clone, Copy, Debug)]
 pub struct BodyReader<'a> {
     buf: &'a [u8],
-    pos: usize,
-}
-
-// A number that was read, or why there is none.
-#[derive(Clone, Copy)]
-pub enum Field {
-    Number(u32),
-    Refused(Refusal),
-}
-
-// What a read answers, and the position after it.
-#[derive(Clone, Copy)]
-struct Step {
-    pub field: Field,
-    pub next: usize,
-}
-
-// Reads 1, 2 or 3 bytes by the cursor.
-fn take(cursor: BodyCursor, buf: &[u8], width: usize) -> Taken
-    requires { (0 < width) × (width < 4) }
-    ensures { outcome result ≡ taken_at width cursor.pos buf.now }
-{
-    if width == 1 {
-        return cursor.u8(buf);
-    }
-    if width == 2 {
-        return cursor.u16(buf);
-    }
-    cursor.u24(buf)
-}
-
-// Reads `width` bytes at a position: 1, 2 or 3. A read that is refused stays where it is.
-fn read_at(buf: &[u8], pos: usize, width: usize) -> Step
-    requires { (0 < width) × (width < 4) }
-    ensures { Taking width pos buf.now result.field result.next }
-{
-    let taken = take(BodyCursor { pos }, buf, width);
-    match taken {
-        Taken::Number(number, after) => Step {
-            field: Field::Number(number),
-            next: after.pos,
-        },
-        Taken::Refused(why) => Step {
-            field: Field::Refused(why),
-            next: pos,
-        },
-    }
-}
-
-// How many bytes are left from a position on.
-fn left_at(buf: &[u8], pos: usize) -> usize
-    ensures { result ≡ length buf.now - pos }
-{
-    BodyCursor { pos }.remaining(buf)
-}
-
-// The rest from a position on.
-fn rest_at<'a>(buf: &'a [u8], pos: usize) -> &'a [u8]
-    ensures { result.now ≡ drop pos buf.now }
-{
-    BodyCursor { pos }.rest(buf)
+    cursor: BodyCursor,
 }
 
 impl<'a> BodyReader<'a> {
-    pub fn new(buf: &'a [u8]) -> BodyReader<'a>
+    pub fn new(buf: &'a [u8]) -> Self
         ensures { result ≡ at_start buf.entry }
     {
-        BodyReader { buf, pos: 0 }
+        BodyReader {
+            buf,
+            cursor: BodyCursor::new(),
+        }
     }
 
     // How many bytes are left.
-    pub fn remaining<'s>(&'s self) -> usize
+    pub fn remaining(&self) -> usize
         ensures { result ≡ left_of self.now }
     {
-        left_at(self.buf, self.pos)
+        self.cursor.remaining(self.buf)
     }
 
-    pub fn u8<'s>(&'s mut self) -> Field
+    // The number that the cursor read, after which the reader goes on. A read that is refused stays where it is.
+    fn step(&mut self, read: Result<(u32, BodyCursor), Refusal>) -> Result<u32, Refusal>
+        ensures kept { self.new.buf ≡ self.old.buf }
+        ensures answered { outcome result ≡ number_or (taken read) }
+        ensures moved { self.new.cursor.pos ≡ place_or self.old.cursor.pos (taken read) }
+    {
+        let (number, next) = read?;
+        self.cursor = next;
+        Ok(number)
+    }
+
+    pub fn u8(&mut self) -> Result<u32, Refusal>
         ensures { Reads 1 self.old self.new result }
     {
-        let step = read_at(self.buf, self.pos, 1);
-        self.pos = step.next;
-        step.field
+        self.step(self.cursor.u8(self.buf))
     }
 
-    pub fn u16<'s>(&'s mut self) -> Field
+    pub fn u16(&mut self) -> Result<u32, Refusal>
         ensures { Reads 2 self.old self.new result }
     {
-        let step = read_at(self.buf, self.pos, 2);
-        self.pos = step.next;
-        step.field
+        self.step(self.cursor.u16(self.buf))
     }
 
-    pub fn u24<'s>(&'s mut self) -> Field
+    pub fn u24(&mut self) -> Result<u32, Refusal>
         ensures { Reads 3 self.old self.new result }
     {
-        let step = read_at(self.buf, self.pos, 3);
-        self.pos = step.next;
-        step.field
+        self.step(self.cursor.u24(self.buf))
     }
 
     // The rest of the body; nothing is left after it.
-    pub fn rest<'s>(&'s mut self) -> &'a [u8]
+    pub fn rest(&mut self) -> &'a [u8]
         ensures { Rests self.old self.new result.now }
     {
-        let rest = rest_at(self.buf, self.pos);
-        self.pos = self.buf.len();
+        let rest = self.cursor.rest(self.buf);
+        self.cursor.pos = self.buf.len();
         rest
     }
 }

@@ -2,4 +2,5 @@
 #![tactic(auto)]
 
 pub mod bitmap;
+mod code;
 pub mod color;

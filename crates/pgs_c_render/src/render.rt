@@ -2,7 +2,7 @@
 ghost use Rattle.std.specs.Prelude.{◌≡◌, ◌∷◌, []};
 ghost use Rattle.pgs_c_render.specs.Render.{RenderCall};
 
-use pgs_render::render::{RenderAnswer, render};
+use pgs_render::render::render;
 
 // What is shown, as cells: width, height, PTS.
 fn shown_cells(width: u16, height: u16, pts: u32) -> [u64; 3]
@@ -21,8 +21,8 @@ pub fn pgs_render(
     ensures { RenderCall stream.now set scratch.old scratch.new plane.old plane.new shown.old shown.new result }
 {
     match render(stream, set as usize, scratch, plane) {
-        RenderAnswer::Refused(why) => why.number(),
-        RenderAnswer::Shown(width, height, pts) => {
+        Err(why) => why.number(),
+        Ok((width, height, pts)) => {
             *shown = shown_cells(width, height, pts);
             0
         }

@@ -7,25 +7,20 @@ ghost use Rattle.pgs_c_segment.specs.Segments.{
   OdsCall,
 };
 
+use pgs_c_told::told::told;
 use pgs_cells::pcs::pcs_cells;
 use pgs_cells::pds::pds_cells;
 use pgs_cells_ods::ods::ods_cells;
-use pgs_ods::ods::{Ods, OdsAnswer};
-use pgs_pcs::pcs::{Pcs, PcsAnswer};
-use pgs_pds::pds::{Pds, PdsAnswer};
-use pgs_stream::stream::{StreamAnswer, parse_segments};
-use pgs_wds::wds::{Wds, WdsAnswer};
+use pgs_ods::ods::Ods;
+use pgs_pcs::pcs::Pcs;
+use pgs_pds::pds::Pds;
+use pgs_stream::stream::parse_segments;
+use pgs_wds::wds::Wds;
 
 pub fn pgs_parse_segments(stream: &[u8], segments: &mut [[u64; 5]], count: &mut u64) -> u8
     ensures { SegmentsCall stream.now segments.old segments.new count.old count.new result }
 {
-    match parse_segments(stream, segments) {
-        StreamAnswer::Refused(why) => why.number(),
-        StreamAnswer::Segments(found) => {
-            *count = found as u64;
-            0
-        }
-    }
+    told(parse_segments(stream, segments), count)
 }
 
 pub fn pgs_parse_pcs(
@@ -36,9 +31,10 @@ pub fn pgs_parse_pcs(
 ) -> u8
     ensures { PcsCall body.now pcs.old pcs.new placements.old placements.new count.old count.new result }
 {
+    // Stays a match, as the next two: the numbers are set too, and to map the answer for `told` would be no shorter.
     match Pcs::parse(body, placements) {
-        PcsAnswer::Refused(why) => why.number(),
-        PcsAnswer::Placements(numbers, placed) => {
+        Err(why) => why.number(),
+        Ok((numbers, placed)) => {
             *pcs = pcs_cells(numbers);
             *count = placed as u64;
             0
@@ -49,21 +45,15 @@ pub fn pgs_parse_pcs(
 pub fn pgs_parse_wds(body: &[u8], windows: &mut [[u16; 5]], count: &mut u64) -> u8
     ensures { WdsCall body.now windows.old windows.new count.old count.new result }
 {
-    match Wds::parse(body, windows) {
-        WdsAnswer::Refused(why) => why.number(),
-        WdsAnswer::Windows(windows_read) => {
-            *count = windows_read as u64;
-            0
-        }
-    }
+    told(Wds::parse(body, windows), count)
 }
 
 pub fn pgs_parse_pds(body: &[u8], pds: &mut [u8; 2], entries: &mut [[u8; 5]], count: &mut u64) -> u8
     ensures { PdsCall body.now pds.old pds.new entries.old entries.new count.old count.new result }
 {
     match Pds::parse(body, entries) {
-        PdsAnswer::Refused(why) => why.number(),
-        PdsAnswer::Entries(numbers, given) => {
+        Err(why) => why.number(),
+        Ok((numbers, given)) => {
             *pds = pds_cells(numbers);
             *count = given as u64;
             0
@@ -75,8 +65,8 @@ pub fn pgs_parse_ods(body: &[u8], ods: &mut [u64; 9]) -> u8
     ensures { OdsCall body.now ods.old ods.new result }
 {
     match Ods::parse(body) {
-        OdsAnswer::Refused(why) => why.number(),
-        OdsAnswer::Fragment(numbers, data) => {
+        Err(why) => why.number(),
+        Ok((numbers, data)) => {
             *ods = ods_cells(numbers, data);
             0
         }

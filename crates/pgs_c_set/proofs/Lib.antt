@@ -1,1 +1,1 @@
-pub mod ObjectLaws
+pub mod ToldLaws

@@ -20,17 +20,22 @@ module _ (n : ℕ) where
   set-by accepted old = refl
   set-by (refused k) old = refl
 
--- an answer that is passed on
+-- an answer with a count that is passed on
+pub counted-call : {A : Type 0} (v : Verdict) (n : ℕ) {new before after : List A} {o : Outcome ℕ} {count count' r : ℕ}
+    → Delivered v n new before after o → (r ≡ code_by o) × (count' ≡ set_by o count) → ListCall v new before after n count count' r
+counted-call v n {new} {before} {count = count} d e =
+    let w = delivery v new before in
+    record {
+      code = e.0 ∙ (ap code_by d.answered ∙ code_by_lem n w);
+      listed = d.written;
+      counted = e.1 ∙ (ap (λ (x : Outcome ℕ). set_by x count) d.answered ∙ set-by n w count);
+    }
+
+-- that of a writer
 pub told-call : (t : Bool) (f : SegmentFields) {before after : List ℕ} {o : Outcome ℕ} {count count' r : ℕ}
     → Delivered (unless 35 t) (length (encode f)) (encode f) before after o → (r ≡ code_by o) × (count' ≡ set_by o count)
     → ListCall (unless 35 t) (encode f) before after (length (encode f)) count count' r
-told-call t f {before} {count = count} d e =
-    let v = delivery (unless 35 t) (encode f) before in
-    record {
-      code = e.0 ∙ (ap code_by d.answered ∙ code_by_lem (length (encode f)) v);
-      listed = d.written;
-      counted = e.1 ∙ (ap (λ (x : Outcome ℕ). set_by x count) d.answered ∙ set-by (length (encode f)) v count);
-    }
+told-call t f d e = counted-call (unless 35 t) (length (encode f)) d e
 
 module _ {A : Type 0} (fit : Bool) (a : A) where
   not-fit : (x : Bool) {k : ℕ} → unless 35 fit ≡ refused k → unless 35 (pick fit x false) ≡ refused k

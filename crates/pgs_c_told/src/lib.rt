@@ -1,4 +1,4 @@
-// What the calls of the C interface that write have in common.
+// What the calls of the C interface that answer with a count have in common.
 #![tactic(auto)]
 
 pub mod told;

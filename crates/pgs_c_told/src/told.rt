@@ -1,19 +1,19 @@
-// What a call that writes tells of its writer's answer.
+// What a call tells of an answer that counts: bytes that were written, or records that were filled.
 ghost use Rattle.std.specs.Prelude.{◌≡◌};
+ghost use Rattle.pgs_base.specs.Outcome.{outcome};
 ghost use Rattle.pgs_c_told.specs.Told.{code_by, set_by};
-ghost use Rattle.pgs_writer_base.specs.Answers.{write_outcome};
 
-use pgs_writer_base::head::WriteAnswer;
+use pgs_base::refusal::Refusal;
 
-// Passes a writer's answer on.
-pub fn told(answer: WriteAnswer, written: &mut u64) -> u8
-    ensures value { result ≡ code_by (write_outcome answer) }
-    ensures written_after { written.new ≡ set_by (write_outcome answer) written.old }
+// Passes the answer on.
+pub fn told(answer: Result<usize, Refusal>, count: &mut u64) -> u8
+    ensures value { result ≡ code_by (outcome answer) }
+    ensures count_after { count.new ≡ set_by (outcome answer) count.old }
 {
     match answer {
-        WriteAnswer::Refused(why) => why.number(),
-        WriteAnswer::Written(n) => {
-            *written = n as u64;
+        Err(why) => why.number(),
+        Ok(n) => {
+            *count = n as u64;
             0
         }
     }

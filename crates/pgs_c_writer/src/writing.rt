@@ -6,11 +6,12 @@ ghost use Rattle.pgs_encoding.specs.Writable.{writable};
 ghost use Rattle.pgs_writer_base.specs.Kinds.{ods_segment, end_segment, other_segment};
 
 use pgs_c_told::told::told;
-use pgs_cells_ods::ods::{OdsNumbers, ods_from};
-use pgs_stream_writer::stream::{WritesAnswer, write_segments};
+use pgs_cells_ods::ods::ods_from;
+use pgs_stream_writer::stream::write_segments;
 use pgs_writer::end::encode_end;
 use pgs_writer::ods::encode_ods;
 use pgs_writer::other::encode_other;
+use pgs_writer_base::head::Timestamps;
 
 pub fn pgs_encode_ods(
     pts: u32,
@@ -23,15 +24,18 @@ pub fn pgs_encode_ods(
     ensures { WriteCall (ods_cells_writable pts dts ods.now «data».now) (ods_segment pts dts (ods_from ods.now) «data».now) out.old out.new written.old written.new result }
 {
     match ods_from(*ods) {
-        OdsNumbers::Refused(why) => why.number(),
-        OdsNumbers::Numbers(numbers) => told(encode_ods(pts, dts, numbers, data, out), written),
+        Err(why) => why.number(),
+        Ok(numbers) => told(
+            encode_ods(Timestamps { pts, dts }, numbers, data, out),
+            written,
+        ),
     }
 }
 
 pub fn pgs_encode_end(pts: u32, dts: u32, out: &mut [u8], written: &mut u64) -> u8
     ensures { WriteCall (writable (end_segment pts dts)) (end_segment pts dts) out.old out.new written.old written.new result }
 {
-    told(encode_end(pts, dts, out), written)
+    told(encode_end(Timestamps { pts, dts }, out), written)
 }
 
 pub fn pgs_encode_other(
@@ -44,7 +48,10 @@ pub fn pgs_encode_other(
 ) -> u8
     ensures { WriteCall (writable (other_segment pts dts kind «data».now)) (other_segment pts dts kind «data».now) out.old out.new written.old written.new result }
 {
-    told(encode_other(pts, dts, kind, data, out), written)
+    told(
+        encode_other(Timestamps { pts, dts }, kind, data, out),
+        written,
+    )
 }
 
 pub fn pgs_write_segments(
@@ -56,9 +63,10 @@ pub fn pgs_write_segments(
 ) -> u8
     ensures { WritesCall stream.now writes out.old out.new accepted.old accepted.new written.old written.new result }
 {
+    // Stays a match: two counts are set, and to map the answer for `told` would be no shorter.
     match write_segments(stream, writes as usize, out) {
-        WritesAnswer::Refused(why) => why.number(),
-        WritesAnswer::Writes(taken, bytes) => {
+        Err(why) => why.number(),
+        Ok((taken, bytes)) => {
             *accepted = taken as u64;
             *written = bytes as u64;
             0

@@ -7,8 +7,9 @@ ghost use Rattle.pgs_encoding.specs.Writable.{writable};
 ghost use Rattle.pgs_writer_base.specs.Kinds.{pcs_segment, wds_segment, pds_segment};
 
 use pgs_c_told::told::told;
-use pgs_cells::pcs::{PcsNumbers, pcs_from};
+use pgs_cells::pcs::pcs_from;
 use pgs_cells::pds::pds_from;
+use pgs_writer_base::head::Timestamps;
 use pgs_writer_lists::pds::encode_pds;
 use pgs_writer_lists::wds::encode_wds;
 use pgs_writer_pcs::pcs::encode_pcs;
@@ -24,10 +25,11 @@ pub fn pgs_encode_pcs(
     ensures { WriteCall (pcs_cells_writable pts dts pcs.now placements.now) (pcs_segment pts dts (pcs_from pcs.now) placements.now) out.old out.new written.old written.new result }
 {
     match pcs_from(*pcs) {
-        PcsNumbers::Refused(why) => why.number(),
-        PcsNumbers::Numbers(numbers) => {
-            told(encode_pcs(pts, dts, numbers, placements, out), written)
-        }
+        Err(why) => why.number(),
+        Ok(numbers) => told(
+            encode_pcs(Timestamps { pts, dts }, numbers, placements, out),
+            written,
+        ),
     }
 }
 
@@ -40,7 +42,7 @@ pub fn pgs_encode_wds(
 ) -> u8
     ensures { WriteCall (writable (wds_segment pts dts windows.now)) (wds_segment pts dts windows.now) out.old out.new written.old written.new result }
 {
-    told(encode_wds(pts, dts, windows, out), written)
+    told(encode_wds(Timestamps { pts, dts }, windows, out), written)
 }
 
 pub fn pgs_encode_pds(
@@ -53,5 +55,8 @@ pub fn pgs_encode_pds(
 ) -> u8
     ensures { WriteCall (writable (pds_segment pts dts (pds_from pds.now) entries.now)) (pds_segment pts dts (pds_from pds.now) entries.now) out.old out.new written.old written.new result }
 {
-    told(encode_pds(pts, dts, pds_from(*pds), entries, out), written)
+    told(
+        encode_pds(Timestamps { pts, dts }, pds_from(*pds), entries, out),
+        written,
+    )
 }

@@ -2,8 +2,7 @@
 -- upper-case hexadecimal: place 8 digits, PTS 8, composition number 4, state 2, palette id 2, number of objects in the set 2, width 4,
 -- height 4. Every line ends with a line feed".
 use Rattle.std.specs.Prelude.{ℕ, zero, suc, ◌+◌, ◌/◌, ◌%◌, List, [], ◌∷◌, ◌++◌, map, length, leb, ltb}
-use Rattle.pgs_base.specs.Outcome.{Verdict, Outcome, gives, refuses, and_then, unless, pick}
-use Rattle.pgs_base.specs.Refusals.{number_of}
+use Rattle.pgs_base.specs.Outcome.{Verdict, and_then, unless, pick}
 use Rattle.pgs_segment.specs.Header.{pts_of}
 use Rattle.pgs_segment.specs.OneSegment.{body_at}
 use Rattle.pgs_pcs.specs.PcsBody.{pcs_of}
@@ -11,8 +10,6 @@ use Rattle.pgs_reassembly.specs.Objects.{chains_of, fragments_of, all_objects_ve
 use Rattle.pgs_set.specs.Sets.{DisplaySet, sets_of}
 use Rattle.pgs_pcs.specs.declared.pcs.Pcs.{Pcs}
 use Rattle.pgs_cards.specs.declared.card.Card.{Card}
-use Rattle.pgs_cards.specs.declared.cards.CardsAnswer.{CardsAnswer}
-use Rattle.pgs_cards.specs.declared.cards.CardsAnswer.TheVariants.{Written, Refused}
 
 -- the card of n objects, by the numbers of the PCS
 abbrev pub card_with : ℕ → ℕ → Pcs → ℕ → Card
@@ -66,7 +63,3 @@ card_lines s = lines_of (map card_of (sets_of s))
 -- up to 2^32 bytes; 35 above, of which 01 does not speak
 abbrev pub cards_verdict : List ℕ → Verdict
 cards_verdict s = and_then (all_objects_verdict s) (unless 35 (leb (length s) 4294967296))
-
-abbrev pub cards_outcome : CardsAnswer → Outcome ℕ
-cards_outcome (Written n) = gives n
-cards_outcome (Refused r) = refuses (number_of r)

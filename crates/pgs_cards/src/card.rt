@@ -1,12 +1,12 @@
 // A card: what one line says of a display set (01, 'Bench samples').
 ghost use Rattle.std.specs.Prelude.{◌≡◌, ◌+◌, ◌<◌, ◌^◌};
-ghost use Rattle.pgs_cards.specs.Walks.{card_after, closes, no_card, opened};
+ghost use Rattle.pgs_cards.specs.Walks.{card_after, closes, opened};
 
 use pgs_ods::ods::Ods;
 use pgs_segment::segment::SegmentBody;
 use pgs_views::fragment_flag::FragmentFlag;
 
-#[derive(Clone, Copy)]
+#[derive(Clone, Copy, Default)]
 pub(crate) struct Card {
     // the place of the set's PCS in the stream
     pub place: usize,
@@ -24,44 +24,17 @@ pub(crate) struct Card {
 fn opened_by(ods: Ods) -> usize
     ensures { result ≡ opened ods }
 {
-    if FragmentFlag::from_raw(ods.last_in_sequence_flag).is_first() {
-        1
-    } else {
-        0
-    }
+    usize::from(FragmentFlag::from(ods.last_in_sequence_flag).is_first())
 }
 
 // Whether a segment closes its set.
 pub(crate) fn is_end(body: SegmentBody) -> bool
     ensures { result ≡ closes body }
 {
-    match body {
-        SegmentBody::End => true,
-        SegmentBody::Pcs(_) => false,
-        SegmentBody::Wds => false,
-        SegmentBody::Pds(_) => false,
-        SegmentBody::Ods(_) => false,
-        SegmentBody::Other(_) => false,
-    }
+    matches!(body, SegmentBody::End)
 }
 
 impl Card {
-    // The card before the first set.
-    pub(crate) fn none() -> Card
-        ensures { result ≡ no_card }
-    {
-        Card {
-            place: 0,
-            pts: 0,
-            composition_number: 0,
-            composition_state: 0,
-            palette_id: 0,
-            objects: 0,
-            width: 0,
-            height: 0,
-        }
-    }
-
     // The card after one more segment: a PCS begins a new one, a first fragment is one object more.
     pub(crate) fn after(self, at: usize, pts: u32, body: SegmentBody) -> Card
         requires { self.objects + 1 < 2 ^ 64 }
@@ -78,15 +51,11 @@ impl Card {
                 width: pcs.width,
                 height: pcs.height,
             },
-            SegmentBody::Ods(ods) => {
-                let mut card = self;
-                card.objects = self.objects + opened_by(ods);
-                card
-            }
-            SegmentBody::Wds => self,
-            SegmentBody::Pds(_) => self,
-            SegmentBody::End => self,
-            SegmentBody::Other(_) => self,
+            SegmentBody::Ods(ods) => Card {
+                objects: self.objects + opened_by(ods),
+                ..self
+            },
+            _ => self,
         }
     }
 }

@@ -7,24 +7,24 @@ use crate::card::Card;
 // How many bytes a line has, its line feed included.
 pub(crate) const LINE: usize = 35;
 
+// Stays by hand: `char::from_digit` gives lower-case letters, and a `char`.
 fn digit(n: u64) -> u8
     requires { n < 16 }
     ensures { result ≡ digit_of n }
 {
     if n < 10 {
-        return 48 + n as u8;
+        return b'0' + n as u8;
     }
-    55 + n as u8
+    b'A' - 10 + n as u8
 }
 
 // Fills `out` with the last digits of a number.
+// Stays by index: of a slice that is written through `iter_mut().rev()`, std does not say what it then holds.
 fn fill_hex(out: &mut [u8], n: u64)
     ensures { out.new ≡ hex (length out.old) n }
 {
-    let mut i = out.len();
     let mut left = n;
-    while 0 < i {
-        i -= 1;
+    for i in (0..out.len()).rev() {
         out[i] = digit(left % 16);
         left /= 16;
     }
@@ -40,6 +40,7 @@ fn put_hex(out: &mut [u8], at: usize, w: usize, n: u64)
 }
 
 // Writes the line of a card; `out` is exactly as long.
+// Stays eight calls: a loop over pairs of width and number would count the places by hand, and name no field's place.
 pub(crate) fn put_line(out: &mut [u8], card: Card)
     requires { length out.old ≡ line_length }
     ensures { out.new ≡ line_of card }
@@ -52,5 +53,5 @@ pub(crate) fn put_line(out: &mut [u8], card: Card)
     put_hex(out, 24, 2, card.objects as u64);
     put_hex(out, 26, 4, card.width as u64);
     put_hex(out, 30, 4, card.height as u64);
-    out[34] = 10;
+    out[34] = b'\n';
 }

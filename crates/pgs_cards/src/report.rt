@@ -1,61 +1,50 @@
 // What setcards prints for an input (01, 'Bench samples').
 ghost use Rattle.std.specs.Prelude.{length};
-ghost use Rattle.pgs_base.specs.Outcome.{accepted, Delivered};
-ghost use Rattle.pgs_cards.specs.Cards.{cards_outcome};
+ghost use Rattle.pgs_base.specs.Outcome.{accepted, outcome, Delivered};
 ghost use Rattle.pgs_cards.specs.Reports.{refusal_line, report_of};
 
-use crate::cards::{CardsAnswer, put_lines};
+use crate::cards::put_lines;
 use pgs_base::refusal::Refusal;
 use pgs_object::object::check_objects;
-use pgs_set::set::SetsAnswer;
 
 // The longest input that is read.
 pub const INPUT_LIMIT: usize = 65536;
 
 // Writes a text to the front of `out`, if it fits.
-fn put_text(text: &[u8], out: &mut [u8]) -> CardsAnswer
-    ensures { Delivered accepted (length text.now) text.now out.old out.new (cards_outcome result) }
+fn put_text(text: &[u8], out: &mut [u8]) -> Result<usize, Refusal>
+    ensures { Delivered accepted (length text.now) text.now out.old out.new (outcome result) }
 {
     if out.len() < text.len() {
-        return CardsAnswer::Refused(Refusal::BufferTooSmall);
+        return Err(Refusal::BufferTooSmall);
     }
     out[..text.len()].copy_from_slice(text);
-    CardsAnswer::Written(text.len())
+    Ok(text.len())
 }
 
 // Writes the line of a refusal.
-fn put_refusal(n: u8, out: &mut [u8]) -> CardsAnswer
-    ensures { Delivered accepted (length (refusal_line n)) (refusal_line n) out.old out.new (cards_outcome result) }
+fn put_refusal(n: u8, out: &mut [u8]) -> Result<usize, Refusal>
+    ensures { Delivered accepted (length (refusal_line n)) (refusal_line n) out.old out.new (outcome result) }
 {
+    let mut text = *b"REFUSED 00\n";
     if n < 10 {
-        let short = [b'R', b'E', b'F', b'U', b'S', b'E', b'D', b' ', 48 + n, 10];
-        return put_text(&short, out);
+        text[8] = b'0' + n;
+        text[9] = b'\n';
+        return put_text(&text[..10], out);
     }
-    let long = [
-        b'R',
-        b'E',
-        b'F',
-        b'U',
-        b'S',
-        b'E',
-        b'D',
-        b' ',
-        48 + n / 10,
-        48 + n % 10,
-        10,
-    ];
-    put_text(&long, out)
+    text[8] = b'0' + n / 10;
+    text[9] = b'0' + n % 10;
+    put_text(&text, out)
 }
 
 // Writes what setcards prints for the input `s` to the front of `out`.
-pub fn write_report(s: &[u8], out: &mut [u8]) -> CardsAnswer
-    ensures { Delivered accepted (length (report_of s.now)) (report_of s.now) out.old out.new (cards_outcome result) }
+pub fn write_report(s: &[u8], out: &mut [u8]) -> Result<usize, Refusal>
+    ensures { Delivered accepted (length (report_of s.now)) (report_of s.now) out.old out.new (outcome result) }
 {
     if INPUT_LIMIT < s.len() {
         return put_text(b"TOO LONG\n", out);
     }
     match check_objects(s) {
-        SetsAnswer::Refused(why) => put_refusal(why.number(), out),
-        SetsAnswer::Sets(n) => put_lines(s, n, out),
+        Ok(n) => put_lines(s, n, out),
+        Err(why) => put_refusal(why.number(), out),
     }
 }

@@ -1,11 +1,7 @@
 -- The numbers of a PCS as cells.
 use Rattle.std.specs.Prelude.{ℕ, Bool, List, [], ◌∷◌, get_or}
-use Rattle.pgs_base.specs.Outcome.{Outcome, gives, refuses}
-use Rattle.pgs_base.specs.Refusals.{number_of}
 use Rattle.pgs_encoding.specs.Layout.{all_fit}
 use Rattle.pgs_pcs.specs.declared.pcs.Pcs.{Pcs}
-use Rattle.pgs_cells.specs.declared.pcs.PcsNumbers.{PcsNumbers}
-use Rattle.pgs_cells.specs.declared.pcs.PcsNumbers.TheVariants.{Numbers, Refused}
 
 -- width, height, frame rate, composition number, state, palette update flag, palette id
 abbrev pub pcs_cells : Pcs → List ℕ
@@ -35,7 +31,3 @@ pcs_from c =
 -- whether the cells of one-byte fields hold bytes; the others have two bytes, as their fields do
 abbrev pub pcs_cells_fit : List ℕ → Bool
 pcs_cells_fit c = all_fit ((1, get_or c 2 0) ∷ (1, get_or c 4 0) ∷ (1, get_or c 5 0) ∷ (1, get_or c 6 0) ∷ [])
-
-abbrev pub pcs_numbers_outcome : PcsNumbers → Outcome Pcs
-pcs_numbers_outcome (Numbers p) = gives p
-pcs_numbers_outcome (Refused r) = refuses (number_of r)

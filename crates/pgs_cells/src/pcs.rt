@@ -1,18 +1,12 @@
 // The numbers of a PCS: width, height, frame rate, composition number, state, palette update flag, palette id.
-ghost use Rattle.std.specs.Prelude.{◌≡◌};
-ghost use Rattle.pgs_base.specs.Outcome.{outcome_of, unless};
-ghost use Rattle.pgs_cells.specs.PcsCells.{pcs_cells, pcs_from, pcs_cells_fit, pcs_numbers_outcome};
+ghost use Rattle.std.specs.Prelude.{◌≡◌, ltb};
+ghost use Rattle.pgs_base.specs.Outcome.{outcome, outcome_of, unless};
+ghost use Rattle.pgs_cells.specs.PcsCells.{pcs_cells, pcs_from, pcs_cells_fit};
 
 use pgs_base::refusal::Refusal;
 use pgs_pcs::pcs::Pcs;
 
-// The numbers, or 35 for a cell that is too large for its field.
-#[derive(Clone, Copy)]
-pub enum PcsNumbers {
-    Numbers(Pcs),
-    Refused(Refusal),
-}
-
+// Stays a function, as the three others: From and TryFrom, the arrays and the numbers all stand in other crates, so no impl may stand here.
 pub fn pcs_cells(p: Pcs) -> [u16; 7]
     ensures { result ≡ pcs_cells p }
 {
@@ -27,28 +21,28 @@ pub fn pcs_cells(p: Pcs) -> [u16; 7]
     ]
 }
 
-pub fn pcs_from(cells: [u16; 7]) -> PcsNumbers
-    ensures { pcs_numbers_outcome result ≡ outcome_of (unless 35 (pcs_cells_fit cells)) (pcs_from cells) }
+// The byte in a cell, or 35 for a cell that is too large.
+fn byte(cell: u16) -> Result<u8, Refusal>
+    ensures { outcome result ≡ outcome_of (unless 35 (ltb cell 256)) cell }
 {
-    if 255 < cells[2] {
-        return PcsNumbers::Refused(Refusal::NotEncodable);
-    }
-    if 255 < cells[4] {
-        return PcsNumbers::Refused(Refusal::NotEncodable);
-    }
-    if 255 < cells[5] {
-        return PcsNumbers::Refused(Refusal::NotEncodable);
-    }
-    if 255 < cells[6] {
-        return PcsNumbers::Refused(Refusal::NotEncodable);
-    }
-    PcsNumbers::Numbers(Pcs {
+    u8::try_from(cell).map_err(|_| Refusal::NotEncodable)
+}
+
+// The numbers, or 35 for a cell that is too large for its field.
+pub fn pcs_from(cells: [u16; 7]) -> Result<Pcs, Refusal>
+    ensures { outcome result ≡ outcome_of (unless 35 (pcs_cells_fit cells)) (pcs_from cells) }
+{
+    let frame_rate = byte(cells[2])?;
+    let composition_state = byte(cells[4])?;
+    let palette_update_flag = byte(cells[5])?;
+    let palette_id = byte(cells[6])?;
+    Ok(Pcs {
         width: cells[0],
         height: cells[1],
-        frame_rate: cells[2] as u8,
+        frame_rate,
         composition_number: cells[3],
-        composition_state: cells[4] as u8,
-        palette_update_flag: cells[5] as u8,
-        palette_id: cells[6] as u8,
+        composition_state,
+        palette_update_flag,
+        palette_id,
     })
 }

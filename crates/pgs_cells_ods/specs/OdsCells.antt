@@ -1,21 +1,15 @@
 -- The numbers of an ODS as cells.
-use Rattle.std.specs.Prelude.{ℕ, Bool, true, false, List, [], ◌∷◌, ◌++◌, eqb, leb, get_or}
-use Rattle.pgs_base.specs.Outcome.{Outcome, gives, refuses, pick}
-use Rattle.pgs_base.specs.Refusals.{number_of}
+use Rattle.std.specs.Prelude.{ℕ, Bool, true, false, List, [], ◌∷◌, ◌++◌, eqb, leb, get_or, Option, None, Some}
+use Rattle.pgs_base.specs.Outcome.{pick}
 use Rattle.pgs_encoding.specs.Layout.{all_fit}
 use Rattle.pgs_ods.specs.declared.ods.Dimensions.{Dimensions}
-use Rattle.pgs_ods.specs.declared.ods.Dimensions.TheVariants.{Absent, Present}
 use Rattle.pgs_ods.specs.declared.ods.Ods.{Ods}
 use Rattle.pgs_records.specs.declared.BodyList.{BodyList}
-use Rattle.pgs_cells_ods.specs.declared.ods.DimensionsGiven.{DimensionsGiven}
-use Rattle.pgs_cells_ods.specs.declared.ods.DimensionsGiven.TheVariants as given
-use Rattle.pgs_cells_ods.specs.declared.ods.OdsNumbers.{OdsNumbers}
-use Rattle.pgs_cells_ods.specs.declared.ods.OdsNumbers.TheVariants as answers
 
 -- whether dimensions are present, and the two, 0 where they are absent
-abbrev pub dimension_cells : Dimensions → List ℕ
-dimension_cells Absent = 0 ∷ 0 ∷ 0 ∷ []
-dimension_cells (Present w h) = 1 ∷ w ∷ h ∷ []
+abbrev pub dimension_cells : Option Dimensions → List ℕ
+dimension_cells None = 0 ∷ 0 ∷ 0 ∷ []
+dimension_cells (Some d) = 1 ∷ d.width ∷ d.height ∷ []
 
 -- id, version, flag, declared length, the dimensions' cells, place of the data in the body, length of the data
 abbrev pub ods_cells : Ods → BodyList → List ℕ
@@ -30,8 +24,8 @@ ods_cells o d =
     ∷ []
 
 -- the dimensions by the mark 'present'; where it is 0 the other two are ignored
-abbrev pub dimensions_from : ℕ → ℕ → ℕ → Dimensions
-dimensions_from mark width height = pick (eqb mark 0) Absent (Present width height)
+abbrev pub dimensions_from : ℕ → ℕ → ℕ → Option Dimensions
+dimensions_from mark width height = pick (eqb mark 0) None (Some (record { width = width; height = height }))
 
 -- a mark is 0 or 1, and dimensions that are present fit their fields
 abbrev pub dimensions_fit : ℕ → ℕ → ℕ → Bool
@@ -53,11 +47,3 @@ ods_from c =
 abbrev pub ods_cells_fit : List ℕ → Bool
 ods_cells_fit c =
     pick (all_fit ((2, get_or c 0 0) ∷ (1, get_or c 1 0) ∷ (1, get_or c 2 0) ∷ [])) (dimensions_fit (get_or c 4 0) (get_or c 5 0) (get_or c 6 0)) false
-
-abbrev pub dimensions_outcome : DimensionsGiven → Outcome Dimensions
-dimensions_outcome (given.Given d) = gives d
-dimensions_outcome (given.Refused r) = refuses (number_of r)
-
-abbrev pub ods_numbers_outcome : OdsNumbers → Outcome Ods
-ods_numbers_outcome (answers.Numbers o) = gives o
-ods_numbers_outcome (answers.Refused r) = refuses (number_of r)

@@ -5,6 +5,7 @@ use Rattle.std.proofs.Common.{pos, negsuc, sym, refl, ◌∙◌, inl, inr, true�
 use Rattle.std.proofs.Common.{eq-or-lt_of_le, zero-mul, mul-one, arith, lit<, lit≤, lt→ltb, ltb-false, ltb-true, le-ltb}
 use Rattle.std.proofs.Common.{lt-ltb, eq-eqb, ne_eqb, le-leb, leb-false, leb-true}
 use borrow.Author.Tests.{lt-leb}
+use Rattle.std.proofs.Math.Bool.{and-false}
 use lib.Ieee.{Float, nan, inf, fin, binary32, up, down, round, add, lt, le, of_int, to_unsigned}
 use lib.Ieee.Fits.{down_pos}
 use lib.Ieee.Order.{round_mono}
@@ -48,10 +49,6 @@ not-above a b z =
       | inl q ↦ simp (le-ltb 0 (a + b) (omega arith), eq-eqb a b (omega arith), eq-eqb a 0 q)
       | inr l ↦ simp (lt-ltb 0 (a + b) (omega arith))
     ]
-
-and-false : (t : Bool) → (t && false) ≡ false
-and-false true = refl
-and-false false = refl
 
 module _ (m : ℕ) (e : ℤ) where
   pub zero-test-neg : le (fin true m e) (whole 0) ≡ true

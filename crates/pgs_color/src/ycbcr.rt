@@ -1,10 +1,10 @@
 // BT.709 limited-range Y, Cb and Cr to full-range R, G and B. 01, 'Colour'.
 ghost use Rattle.std.specs.Prelude.{◌≡◌};
-ghost use Rattle.pgs_color.specs.Sums.{sums_of};
-ghost use Rattle.pgs_color.specs.Bytes.{byte_of, rgb_of, clamped_of};
+ghost use Rattle.pgs_color.specs.Bytes.{byte_of, clamped_of, rgb_of};
+ghost use Rattle.pgs_color.specs.Sums.{chroma, luma, sums_of};
 
 // The three channel sums before clamping, which travel together.
-#[derive(Clone, Copy)]
+#[derive(Clone, Copy, Debug)]
 pub struct ChannelSums {
     pub r: f32,
     pub g: f32,
@@ -12,24 +12,37 @@ pub struct ChannelSums {
 }
 
 // One opaque colour.
-#[derive(Clone, Copy)]
+#[derive(Clone, Copy, Debug, PartialEq, Eq)]
 pub struct Rgb8 {
     pub r: u8,
     pub g: u8,
     pub b: u8,
 }
 
+// What Y adds to each of the three sums.
+fn luma(y: u8) -> f32
+    ensures { result ≡ luma y }
+{
+    (y as f32 - 16.0) * (255.0 / 219.0)
+}
+
+// What Cb or Cr, times its decimal, adds to a sum or takes from it.
+fn chroma(decimal: f32, c: u8) -> f32
+    ensures { result ≡ chroma decimal c }
+{
+    decimal * (c as f32 - 128.0) * (255.0 / 224.0)
+}
+
 // Each operation is one of f32's, in 01's order.
 pub fn channel_sums(y: u8, cb: u8, cr: u8) -> ChannelSums
     ensures { result ≡ sums_of y cb cr }
 {
-    let yf = (y as f32 - 16.0) * (255.0 / 219.0);
-    let cbf = cb as f32 - 128.0;
-    let crf = cr as f32 - 128.0;
-    let r = yf + 1.5748 * crf * (255.0 / 224.0);
-    let g = yf - 0.1873 * cbf * (255.0 / 224.0) - 0.4681 * crf * (255.0 / 224.0);
-    let b = yf + 1.8556 * cbf * (255.0 / 224.0);
-    ChannelSums { r, g, b }
+    let yf = luma(y);
+    ChannelSums {
+        r: yf + chroma(1.5748, cr),
+        g: yf - chroma(0.1873, cb) - chroma(0.4681, cr),
+        b: yf + chroma(1.8556, cb),
+    }
 }
 
 // The byte of one sum. A NaN fails both tests and gives 0, as the Rust's cast of one does.
@@ -50,10 +63,11 @@ impl ChannelSums {
     pub fn clamp(self) -> Rgb8
         ensures { result ≡ clamped_of self }
     {
-        let r = clamp_channel(self.r);
-        let g = clamp_channel(self.g);
-        let b = clamp_channel(self.b);
-        Rgb8 { r, g, b }
+        Rgb8 {
+            r: clamp_channel(self.r),
+            g: clamp_channel(self.g),
+            b: clamp_channel(self.b),
+        }
     }
 }
 

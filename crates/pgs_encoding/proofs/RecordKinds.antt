@@ -1,8 +1,10 @@
 -- Windows, entries and placements: each is written back from what was read, and read back from what was written. Assumes nothing.
+use Rattle.pgs_pcs.specs.declared.pcs.CompositionObjectCrop.{CompositionObjectCrop}
+use Rattle.std.specs.Prelude.{Option, None, Some}
 use mathlib.Core.Path.{◌≡◌, refl, sym, ap, ◌∙◌, subst}
 use mathlib.Core.Bool.{Bool, true, false}
 use mathlib.Core.List.{List, [], ◌∷◌, ◌++◌}
-use Prim.Native.Nat.{ℕ, ◌+◌, ◌≤◌}
+use Prim.Native.Nat.{ℕ, ◌≤◌}
 use native.Mathlib.Omega.{arith}
 use borrow.Author.Tests.{not-true}
 use lib.Dec.{eqb}
@@ -12,8 +14,6 @@ use Rattle.pgs_pds.specs.PdsBody.{entry_of, entry_size}
 use Rattle.pgs_wds.specs.WdsBody.{window_of, window_size}
 use Rattle.pgs_records.proofs.RecordLaws.{first_fits, rest-fits}
 use Rattle.pgs_pcs.specs.declared.pcs.CompositionObject.{CompositionObject}
-use Rattle.pgs_pcs.specs.declared.pcs.Cropping.{Cropping}
-use Rattle.pgs_pcs.specs.declared.pcs.Cropping.TheVariants.{Uncropped, Cropped}
 use Rattle.pgs_pds.specs.declared.pds.PaletteEntry.{PaletteEntry}
 use Rattle.pgs_wds.specs.declared.wds.Window.{Window}
 use Rattle.pgs_encoding.specs.Encode.{window_fields, entry_fields, placement_fields, crop_fields}
@@ -90,7 +90,7 @@ placement-read p r ok = go p.cropping refl
     fit : all_fit (placement_fields p) ≡ true
     fit = rest-fits (crop_where (eqb p.object_cropped_flag 0x40) p.cropping) (all_fit (placement_fields p)) ok
 
-    base : (c : Cropping) → List Field
+    base : (c : Option CompositionObjectCrop) → List Field
     base c =
         (2, p.object_id)
         ∷ (1, p.window_id)
@@ -99,7 +99,7 @@ placement-read p r ok = go p.cropping refl
         ∷ (2, p.object_vertical_position)
         ∷ crop_fields c
 
-    result : List ℕ → Cropping → CompositionObject
+    result : List ℕ → Option CompositionObjectCrop → CompositionObject
     result n c =
         record {
           object_id = get_or n 0 0;
@@ -110,9 +110,9 @@ placement-read p r ok = go p.cropping refl
           cropping = c;
         }
 
-    crop : List ℕ → Cropping
+    crop : List ℕ → Option CompositionObjectCrop
     crop n =
-        Cropped
+        Some
         (record { horizontal_position = get_or n 5 0; vertical_position = get_or n 6 0; width = get_or n 7 0; height = get_or n 8 0 })
 
     Sized : List Field → Type 0
@@ -121,26 +121,26 @@ placement-read p r ok = go p.cropping refl
     Same : List Field → Type 0
     Same fs = placement_of (written fs ++ r) ≡ p
 
-    go : (c : Cropping) → p.cropping ≡ c
+    go : (c : Option CompositionObjectCrop) → p.cropping ≡ c
         → (placement_size (written (placement_fields p) ++ r) ≡ length (written (placement_fields p))) × (placement_of (written (placement_fields p) ++ r) ≡ p)
-    go Uncropped q =
-        let fs = base Uncropped in
+    go None q =
+        let fs = base None in
         let same : placement_fields p ≡ fs = ap base q in
         let flag : eqb p.object_cropped_flag 0x40 ≡ false = not-true _ (rw q at agrees) in
         let numbers = read-fields fs [] r 0 refl (sym (ap all_fit same) ∙ fit) in
         let plain : cropped (written fs ++ r) ≡ false = ap (λ (n : List ℕ). eqb (get_or n 2 0) 0x40) numbers ∙ flag in
-        let none : cropping_of (written fs ++ r) ≡ Uncropped = simp plain in
+        let none : cropping_of (written fs ++ r) ≡ None = simp plain in
         let size : placement_size (written fs ++ r) ≡ length (written fs) = simp plain (sym (length-written fs)) in
         let read : placement_of (written fs ++ r) ≡ p
         = ap (λ (n : List ℕ). result n (cropping_of (written fs ++ r))) numbers ∙ ap (result (values fs)) (none ∙ sym q) in
         (subst Sized (sym same) size, subst Same (sym same) read)
-    go (Cropped c) q =
-        let fs = base (Cropped c) in
+    go (Some c) q =
+        let fs = base (Some c) in
         let same : placement_fields p ≡ fs = ap base q in
         let flag : eqb p.object_cropped_flag 0x40 ≡ true = rw q at agrees in
         let numbers = read-fields fs [] r 0 refl (sym (ap all_fit same) ∙ fit) in
         let has : cropped (written fs ++ r) ≡ true = ap (λ (n : List ℕ). eqb (get_or n 2 0) 0x40) numbers ∙ flag in
-        let one : cropping_of (written fs ++ r) ≡ Cropped c = simp has (ap crop numbers) in
+        let one : cropping_of (written fs ++ r) ≡ Some c = simp has (ap crop numbers) in
         let size : placement_size (written fs ++ r) ≡ length (written fs) = simp has (sym (length-written fs)) in
         let read : placement_of (written fs ++ r) ≡ p
         = ap (λ (n : List ℕ). result n (cropping_of (written fs ++ r))) numbers ∙ ap (result (values fs)) (one ∙ sym q) in

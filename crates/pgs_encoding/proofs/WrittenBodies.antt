@@ -1,4 +1,5 @@
 -- A body that was written from fields, read again: the fields. Assumes nothing.
+use Rattle.std.specs.Prelude.{Option, None, Some}
 use mathlib.Core.Path.{◌≡◌, refl, sym, ap, ◌∙◌, subst}
 use mathlib.Core.Bool.{Bool, true, false}
 use mathlib.Core.List.{List, [], ◌∷◌, ◌++◌, append-nil}
@@ -20,7 +21,6 @@ use Rattle.pgs_pds.specs.PdsBody.{pds_of, entry_of, entry_size, entry_count, ent
 use Rattle.pgs_records.specs.Records.{records, records_fit}
 use Rattle.pgs_wds.specs.WdsBody.{window_of, window_size, window_count, windows_of}
 use Rattle.pgs_ods.specs.declared.ods.Dimensions.{Dimensions}
-use Rattle.pgs_ods.specs.declared.ods.Dimensions.TheVariants.{Absent, Present}
 use Rattle.pgs_ods.specs.declared.ods.Ods.{Ods}
 use Rattle.pgs_pcs.specs.declared.pcs.CompositionObject.{CompositionObject}
 use Rattle.pgs_pcs.specs.declared.pcs.Pcs.{Pcs}
@@ -136,7 +136,7 @@ read-ods o d e = go o.dimensions refl
     fit : all_fit (ods_fields o) ≡ true
     fit = rest-fits (dimensions_where (is_first (fragment_of o.last_in_sequence_flag)) o.dimensions) (all_fit (ods_fields o)) e
 
-    base : Dimensions → List Field
+    base : Option Dimensions → List Field
     base x =
         (2, o.object_id)
         ∷ (1, o.object_version_number)
@@ -144,7 +144,7 @@ read-ods o d e = go o.dimensions refl
         ∷ (3, o.object_data_length)
         ∷ dimension_fields x
 
-    made : List ℕ → Dimensions → Ods
+    made : List ℕ → Option Dimensions → Ods
     made n x =
         record {
           object_id = get_or n 0 0;
@@ -160,24 +160,24 @@ read-ods o d e = go o.dimensions refl
     Same : List Field → Type 0
     Same fs = ◌≡◌ {A = BodyFields} (ods (ods_of (written fs ++ d)) (ods_data (written fs ++ d))) (ods o d)
 
-    go : (x : Dimensions) → o.dimensions ≡ x → ReadBody kinds.Ods (ods o d)
-    go Absent q =
-        let fs = base Absent in
+    go : (x : Option Dimensions) → o.dimensions ≡ x → ReadBody kinds.Ods (ods o d)
+    go None q =
+        let fs = base None in
         let b = written fs ++ d in
         let eqf : ods_fields o ≡ fs = ap base q in
         let numbers = read-fields fs [] d 0 refl (sym (ap all_fit eqf) ∙ fit) in
         let flag : is_first (fragment_of o.last_in_sequence_flag) ≡ false = not-true _ (rw q at agrees) in
         let later : is_first (fragment_of (flag_of b)) ≡ false = ap (λ (n : List ℕ). is_first (fragment_of (get_or n 2 0))) numbers ∙ flag in
         let long : 7 ≤ length b = rw (length-append, length-written fs) (omega arith) in
-        let none : dimensions_of b ≡ Absent = simp later in
+        let none : dimensions_of b ≡ None = simp later in
         let size : head_size (flag_of b) ≡ 7 = simp later in
         let taken : ods_verdict b ≡ accepted = simp (le-leb 7 (length b) long, size) in
         let head : ods_of b ≡ o = ap (λ (n : List ℕ). made n (dimensions_of b)) numbers ∙ ap (made (values fs)) (none ∙ sym q) in
         let data' : ods_data b ≡ d = ap (λ (k : ℕ). drop k b) size ∙ drop_at (written fs) d 7 (length-written fs) in
         let same : Same fs = λ i. ods (head i) (data' i) in
         record { taken = subst Taken (sym eqf) taken; same = subst Same (sym eqf) same }
-    go (Present w h) q =
-        let fs = base (Present w h) in
+    go (Some dims) q =
+        let fs = base (Some dims) in
         let b = written fs ++ d in
         let eqf : ods_fields o ≡ fs = ap base q in
         let numbers = read-fields fs [] d 0 refl (sym (ap all_fit eqf) ∙ fit) in
@@ -185,7 +185,7 @@ read-ods o d e = go o.dimensions refl
         let first : is_first (fragment_of (flag_of b)) ≡ true = ap (λ (n : List ℕ). is_first (fragment_of (get_or n 2 0))) numbers ∙ flag in
         let long : 11 ≤ length b = rw (length-append, length-written fs) (omega arith) in
         let size : head_size (flag_of b) ≡ 11 = simp first in
-        let both : dimensions_of b ≡ Present w h = simp first (ap (λ (n : List ℕ). Present (get_or n 4 0) (get_or n 5 0)) numbers) in
+        let both : dimensions_of b ≡ Some dims = simp first (ap (λ (n : List ℕ). Some (record { width = get_or n 4 0; height = get_or n 5 0 })) numbers) in
         let taken : ods_verdict b ≡ accepted = simp (le-leb 7 (length b) (omega arith), size, le-leb 11 (length b) long) in
         let head : ods_of b ≡ o = ap (λ (n : List ℕ). made n (dimensions_of b)) numbers ∙ ap (made (values fs)) (both ∙ sym q) in
         let data' : ods_data b ≡ d = ap (λ (k : ℕ). drop k b) size ∙ drop_at (written fs) d 11 (length-written fs) in

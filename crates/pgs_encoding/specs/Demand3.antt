@@ -1,6 +1,6 @@
 -- What the customer's third demand says of the definitions. The customer's words stand beside each clause; `proofs/Demand3.antt` has
 -- the proofs. The same definitions are cited by the contracts of the stream reader, the body readings and the writers.
-use Rattle.std.specs.Prelude.{ℕ, ◌+◌, ◌-◌, ◌≤◌, ◌<◌, ◌↔◌, ◌≡◌, List, [], ◌∷◌, ◌++◌, map, leb, length, take, drop, get_or, replicate}
+use Rattle.std.specs.Prelude.{ℕ, ◌-◌, ◌≤◌, ◌<◌, ◌↔◌, ◌≡◌, List, [], ◌∷◌, ◌++◌, map, leb, length, take, drop, get_or, replicate}
 use Rattle.pgs_base.specs.Bytes.{Bytes}
 use Rattle.pgs_base.specs.Outcome.{Verdict, accepted, refused, unless}
 use Rattle.pgs_stream.specs.Stream.{read_of, stream_verdict, stream_fields, segment_count, joined}

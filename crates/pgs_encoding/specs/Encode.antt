@@ -1,14 +1,12 @@
 -- The bytes of a segment, from its fields. 01, module 5: "It recomputes the size, and writes known kinds with their own byte." The layouts
 -- are those of modules 2 and 3.
 -- From US 2009/0185789, whose text is not at hand: 01 gives what is needed of it.
-use Rattle.std.specs.Prelude.{ℕ, List, [], ◌∷◌, ◌++◌, length}
+use Rattle.pgs_pcs.specs.declared.pcs.CompositionObjectCrop.{CompositionObjectCrop}
+use Rattle.std.specs.Prelude.{ℕ, List, [], ◌∷◌, ◌++◌, length, Option, None, Some}
 use Rattle.pgs_segment.specs.Fields.{BodyFields, pcs, wds, pds, ods, end, other, SegmentFields, kind_byte}
 use Rattle.pgs_ods.specs.declared.ods.Dimensions.{Dimensions}
-use Rattle.pgs_ods.specs.declared.ods.Dimensions.TheVariants.{Absent, Present}
 use Rattle.pgs_ods.specs.declared.ods.Ods.{Ods}
 use Rattle.pgs_pcs.specs.declared.pcs.CompositionObject.{CompositionObject}
-use Rattle.pgs_pcs.specs.declared.pcs.Cropping.{Cropping}
-use Rattle.pgs_pcs.specs.declared.pcs.Cropping.TheVariants.{Uncropped, Cropped}
 use Rattle.pgs_pcs.specs.declared.pcs.Pcs.{Pcs}
 use Rattle.pgs_pds.specs.declared.pds.PaletteEntry.{PaletteEntry}
 use Rattle.pgs_pds.specs.declared.pds.Pds.{Pds}
@@ -20,9 +18,9 @@ abbrev pub head_fields : ℕ → ℕ → ℕ → ℕ → List Field
 head_fields pts dts kind size = (1, 0x50) ∷ (1, 0x47) ∷ (4, pts) ∷ (4, dts) ∷ (1, kind) ∷ (2, size) ∷ []
 
 -- "crop x, y, width, height, 2 each"
-abbrev pub crop_fields : Cropping → List Field
-crop_fields Uncropped = []
-crop_fields (Cropped c) = (2, c.horizontal_position) ∷ (2, c.vertical_position) ∷ (2, c.width) ∷ (2, c.height) ∷ []
+abbrev pub crop_fields : Option CompositionObjectCrop → List Field
+crop_fields None = []
+crop_fields (Some c) = (2, c.horizontal_position) ∷ (2, c.vertical_position) ∷ (2, c.width) ∷ (2, c.height) ∷ []
 
 -- "object id 2, window id 1, crop flag 1, x 2, y 2"
 abbrev pub placement_fields : CompositionObject → List Field
@@ -61,9 +59,9 @@ abbrev pub entry_fields : PaletteEntry → List Field
 entry_fields e = (1, e.palette_entry_id) ∷ (1, e.y) ∷ (1, e.cr) ∷ (1, e.cb) ∷ (1, e.alpha) ∷ []
 
 -- "if first, width 2 and height 2"
-abbrev pub dimension_fields : Dimensions → List Field
-dimension_fields Absent = []
-dimension_fields (Present w h) = (2, w) ∷ (2, h) ∷ []
+abbrev pub dimension_fields : Option Dimensions → List Field
+dimension_fields None = []
+dimension_fields (Some d) = (2, d.width) ∷ (2, d.height) ∷ []
 
 -- "object id 2, version 1, fragment flag 1, declared length 3"
 abbrev pub ods_fields : Ods → List Field

@@ -1,5 +1,5 @@
 -- Fields that stand one after another: each is a width in bytes and a number.
-use Rattle.std.specs.Prelude.{ℕ, ◌+◌, ◌^◌, Bool, true, false, List, [], ◌∷◌, ◌++◌, ltb}
+use Rattle.std.specs.Prelude.{ℕ, ◌^◌, Bool, true, false, List, [], ◌∷◌, ◌++◌, ltb}
 use Rattle.pgs_base.specs.Bytes.{bytes_of}
 use Rattle.pgs_base.specs.Outcome.{pick}
 

@@ -2,7 +2,8 @@
 -- present other than exactly at flag 40, dimensions present other than exactly at a first fragment, or an unknown kind carrying one of
 -- the five known bytes." The first three are numbers that do not fit their fields: a count in 1 byte, a size in 2, a declared length in
 -- 3. So is any other number that its field cannot hold, which the papers leave free.
-use Rattle.std.specs.Prelude.{Bool, true, false, not, [], ◌∷◌, eqb, length}
+use Rattle.pgs_pcs.specs.declared.pcs.CompositionObjectCrop.{CompositionObjectCrop}
+use Rattle.std.specs.Prelude.{Bool, true, false, not, [], ◌∷◌, eqb, length, Option, None, Some}
 use Rattle.pgs_views.specs.Fragments.{fragment_of, is_first}
 use Rattle.pgs_views.specs.Kinds.{type_of}
 use Rattle.pgs_base.specs.Outcome.{Verdict, unless, pick}
@@ -10,23 +11,20 @@ use Rattle.pgs_views.specs.declared.segment_type.SegmentType.{SegmentType}
 use Rattle.pgs_views.specs.declared.segment_type.SegmentType.TheVariants as kinds
 use Rattle.pgs_segment.specs.Fields.{BodyFields, pcs, wds, pds, ods, end, other, SegmentFields, kind_byte}
 use Rattle.pgs_ods.specs.declared.ods.Dimensions.{Dimensions}
-use Rattle.pgs_ods.specs.declared.ods.Dimensions.TheVariants.{Absent, Present}
 use Rattle.pgs_ods.specs.declared.ods.Ods.{Ods}
 use Rattle.pgs_pcs.specs.declared.pcs.CompositionObject.{CompositionObject}
-use Rattle.pgs_pcs.specs.declared.pcs.Cropping.{Cropping}
-use Rattle.pgs_pcs.specs.declared.pcs.Cropping.TheVariants.{Uncropped, Cropped}
 use Rattle.pgs_encoding.specs.Encode.{head_fields, placement_fields, pcs_fields, window_fields, pds_fields, entry_fields, ods_fields, body_bytes}
 use Rattle.pgs_encoding.specs.Layout.{all_fit, each}
 
 -- a crop is present exactly where the first test holds
-abbrev pub crop_where : Bool → Cropping → Bool
-crop_where t (Cropped c) = t
-crop_where t Uncropped = not t
+abbrev pub crop_where : Bool → Option CompositionObjectCrop → Bool
+crop_where t (Some c) = t
+crop_where t None = not t
 
 -- dimensions are present exactly where the first test holds
-abbrev pub dimensions_where : Bool → Dimensions → Bool
-dimensions_where t (Present w h) = t
-dimensions_where t Absent = not t
+abbrev pub dimensions_where : Bool → Option Dimensions → Bool
+dimensions_where t (Some d) = t
+dimensions_where t None = not t
 
 abbrev pub placement_writable : CompositionObject → Bool
 placement_writable p = pick (crop_where (eqb p.object_cropped_flag 0x40) p.cropping) (all_fit (placement_fields p)) false

@@ -4,15 +4,16 @@
 ghost use Rattle.std.specs.Prelude.{◌≡◌, drop};
 ghost use Rattle.pgs_fragment_reader.specs.Fragment.{place_from, head_widths, Headed};
 
-use pgs_body_reader::{BodyReader, Field};
+use pgs_base::refusal::Refusal;
+use pgs_body_reader::BodyReader;
 
 // The fields at the front of an ODS body up to the declared length, each as its read answered it, and how many bytes are left.
-#[derive(Clone, Copy)]
+#[derive(Clone, Copy, Debug, PartialEq, Eq)]
 pub struct FragmentHead {
-    pub object_id: Field,
-    pub object_version: Field,
-    pub flag: Field,
-    pub declared_length: Field,
+    pub object_id: Result<u32, Refusal>,
+    pub object_version: Result<u32, Refusal>,
+    pub flag: Result<u32, Refusal>,
+    pub declared_length: Result<u32, Refusal>,
     pub left: usize,
 }
 
@@ -22,28 +23,24 @@ pub fn fragment_head(body: &[u8]) -> FragmentHead
     ensures { Headed body.now result }
 {
     let mut reader = BodyReader::new(body);
-    let object_id = reader.u16();
-    let object_version = reader.u8();
-    let flag = reader.u8();
-    let declared_length = reader.u24();
-    let left = reader.remaining();
     FragmentHead {
-        object_id,
-        object_version,
-        flag,
-        declared_length,
-        left,
+        object_id: reader.u16(),
+        object_version: reader.u8(),
+        flag: reader.u8(),
+        declared_length: reader.u24(),
+        left: reader.remaining(),
     }
 }
 
 // The bytes after the last read of the head that was accepted: the data of a fragment that is not the first, where its head is whole.
-pub fn fragment_data<'a>(body: &'a [u8]) -> &'a [u8]
+pub fn fragment_data(body: &[u8]) -> &[u8]
     ensures { result.now ≡ drop (place_from head_widths 0 body.now) body.now }
 {
     let mut reader = BodyReader::new(body);
-    reader.u16();
-    reader.u8();
-    reader.u8();
-    reader.u24();
+    // Only the place after the reads counts.
+    let _ = reader.u16();
+    let _ = reader.u8();
+    let _ = reader.u8();
+    let _ = reader.u24();
     reader.rest()
 }

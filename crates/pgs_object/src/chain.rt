@@ -1,6 +1,6 @@
 // The fragments of a display set, and the chains that they make up (01, module 7).
 ghost use Rattle.std.specs.Prelude.{◌≡◌, ◌+◌, ◌≤◌, ◌<◌, ◌^◌, true, false, length, take, drop};
-ghost use Rattle.pgs_base.specs.Outcome.{accepted, pick};
+ghost use Rattle.pgs_base.specs.Outcome.{accepted, outcome};
 ghost use Rattle.pgs_segment.specs.OneSegment.{segment_type, used_by};
 ghost use Rattle.pgs_stream.specs.Stream.{step_verdict};
 ghost use Rattle.pgs_reassembly.specs.Objects.{is_ods, width_in, height_in, fragment_at};
@@ -12,55 +12,31 @@ ghost use Rattle.pgs_reassembly.specs.Tables.{
   FoundChains,
   fragments_left,
 };
-ghost use Rattle.pgs_object.specs.Answers.{chains_outcome};
-ghost use Rattle.pgs_set.specs.Walks.{InSet};
 
 use pgs_base::refusal::Refusal;
-use pgs_ods::ods::{Dimensions, Ods, OdsAnswer};
-use pgs_reassembly::FragmentNumbers;
-use pgs_segment::header::header_at;
+use pgs_ods::ods::{Dimensions, Ods};
+use pgs_reassembly::{ChainRow, FragmentNumbers};
+use pgs_segment::header::{SegmentHeader, header_at};
+use pgs_set::open_set::OpenSet;
 use pgs_set::set::is_end;
 use pgs_views::fragment_flag::FragmentFlag;
 use pgs_views::segment_type::SegmentType;
 
-// A chain is a row of ten numbers in a table: 0 id, 1 version, 2 width, 3 height, 4 declared length, 5 whether it is closed, 6 whether it
-// is copied, 7 the place of its first segment, 8 the place of that segment's data, 9 the joined length.
-
-// How many chains there are, or why a fragment is refused.
-#[derive(Clone, Copy)]
-pub(crate) enum ChainsAnswer {
-    Chains(usize),
-    Refused(Refusal),
-}
+// Stays a table whose first n rows are the chains, with n beside it: nothing allocates, so that there is no `Vec` whose length would be n.
 
 pub(crate) fn is_ods(kind: SegmentType) -> bool
     ensures { result ≡ is_ods kind }
 {
-    match kind {
-        SegmentType::Ods => true,
-        SegmentType::Pcs => false,
-        SegmentType::Wds => false,
-        SegmentType::Pds => false,
-        SegmentType::End => false,
-        SegmentType::Other(_) => false,
-    }
+    matches!(kind, SegmentType::Ods)
 }
 
-fn width_in(dimensions: Dimensions) -> usize
-    ensures { result ≡ width_in dimensions }
+// The width and the height of a fragment, 0 and 0 where it has none.
+fn size_in(dimensions: Option<Dimensions>) -> (usize, usize)
+    ensures { result ≡ (width_in dimensions, height_in dimensions) }
 {
     match dimensions {
-        Dimensions::Absent => 0,
-        Dimensions::Present(width, _) => width as usize,
-    }
-}
-
-fn height_in(dimensions: Dimensions) -> usize
-    ensures { result ≡ height_in dimensions }
-{
-    match dimensions {
-        Dimensions::Absent => 0,
-        Dimensions::Present(_, height) => height as usize,
+        None => (0, 0),
+        Some(size) => (size.width as usize, size.height as usize),
     }
 }
 
@@ -71,112 +47,103 @@ pub(crate) fn read_fragment(s: &[u8], at: usize, used: usize) -> FragmentNumbers
     requires used_value { used ≡ used_by (drop at s.now) }
     ensures { result ≡ fragment_numbers (fragment_at at (drop at s.now)) }
 {
-    match Ods::parse(&s[at + 13..at + used]) {
-        OdsAnswer::Fragment(ods, data) => {
-            let dimensions = ods.dimensions;
-            let flag = ods.last_in_sequence_flag;
-            FragmentNumbers {
-                id: ods.object_id as usize,
-                version: ods.object_version_number as usize,
-                width: width_in(dimensions),
-                height: height_in(dimensions),
-                declared: ods.object_data_length as usize,
-                first: FragmentFlag::from_raw(flag).is_first(),
-                last: FragmentFlag::from_raw(flag).is_last(),
-                place: at,
-                start: at + 13 + data.start,
-                len: data.len,
-            }
-        }
-        // cannot be: the segment was accepted
-        OdsAnswer::Refused(_) => FragmentNumbers {
-            id: 0,
-            version: 0,
-            width: 0,
-            height: 0,
-            declared: 0,
-            first: false,
-            last: false,
-            place: at,
-            start: 0,
-            len: 0,
-        },
+    // the segment was accepted, so its body is
+    let (ods, data) = Ods::parse(&s[at + SegmentHeader::SIZE..at + used]).unwrap();
+    let (width, height) = size_in(ods.dimensions);
+    let flag = FragmentFlag::from(ods.last_in_sequence_flag);
+    FragmentNumbers {
+        id: ods.object_id as usize,
+        version: ods.object_version_number as usize,
+        width,
+        height,
+        declared: ods.object_data_length as usize,
+        first: flag.is_first(),
+        last: flag.is_last(),
+        place: at,
+        start: at + SegmentHeader::SIZE + data.start,
+        len: data.len,
     }
 }
 
 // The number of the first row with this id, or of rows where there is none.
-fn find_row(rows: &[[usize; 10]], id: usize) -> usize
+fn find_row(rows: &[ChainRow], id: usize) -> usize
     ensures { result ≡ row_with id rows.now }
 {
-    let mut i: usize = 0;
-    while i < rows.len() {
-        let row = rows[i];
-        if row[0] == id {
-            return i;
-        }
-        i += 1;
-    }
-    i
-}
-
-fn one_if(b: bool) -> usize
-    ensures { result ≡ pick b 1 0 }
-{
-    if b { 1 } else { 0 }
+    rows.iter()
+        .position(|row| row.id == id)
+        .unwrap_or(rows.len())
 }
 
 // A first fragment opens a chain, unless its id is known, which stands at row i, or the table is full.
-fn open_chain(table: &mut [[usize; 10]], n: usize, i: usize, f: FragmentNumbers) -> ChainsAnswer
+fn open_chain(
+    table: &mut [ChainRow],
+    n: usize,
+    i: usize,
+    f: FragmentNumbers,
+) -> Result<usize, Refusal>
     requires n_in_bounds { n ≤ length table.old }
     requires i_value { i ≡ row_with f.id (take n table.old) }
     requires first_value { f.first ≡ true }
-    ensures { Took table.old table.new n f (chains_outcome result) }
+    ensures { Took table.old table.new n f (outcome result) }
 {
     if i < n {
-        let row = table[i];
-        if row[5] == 0 {
-            return ChainsAnswer::Refused(Refusal::FirstFragmentWhileOpen);
+        if table[i].closed {
+            return Err(Refusal::DuplicateObject);
         }
-        return ChainsAnswer::Refused(Refusal::DuplicateObject);
+        return Err(Refusal::FirstFragmentWhileOpen);
     }
     if n < table.len() {
-        let ended = one_if(f.last);
-        table[n] = [
-            f.id, f.version, f.width, f.height, f.declared, ended, 0, f.place, f.start, f.len,
-        ];
-        return ChainsAnswer::Chains(n + 1);
+        table[n] = ChainRow {
+            id: f.id,
+            version: f.version,
+            width: f.width,
+            height: f.height,
+            declared: f.declared,
+            closed: f.last,
+            copied: false,
+            place: f.place,
+            start: f.start,
+            len: f.len,
+        };
+        return Ok(n + 1);
     }
-    ChainsAnswer::Refused(Refusal::TooManyObjects)
+    Err(Refusal::TooManyObjects)
 }
 
 // A continuation extends the chain of its id, which stands at row i, if it is open.
-fn continue_chain(table: &mut [[usize; 10]], n: usize, i: usize, f: FragmentNumbers) -> ChainsAnswer
+fn continue_chain(
+    table: &mut [ChainRow],
+    n: usize,
+    i: usize,
+    f: FragmentNumbers,
+) -> Result<usize, Refusal>
     requires n_in_bounds { n ≤ length table.old }
     requires i_value { i ≡ row_with f.id (take n table.old) }
     requires first_value { f.first ≡ false }
     requires len_bound { total (take n table.old) + f.len < 2 ^ 64 }
-    ensures { Took table.old table.new n f (chains_outcome result) }
+    ensures { Took table.old table.new n f (outcome result) }
 {
     if i < n {
         let row = table[i];
-        if row[5] != 0 {
-            return ChainsAnswer::Refused(Refusal::FragmentAfterLast);
+        if row.closed {
+            return Err(Refusal::FragmentAfterLast);
         }
-        let ended = one_if(f.last);
-        let len = row[9] + f.len;
-        table[i] = [
-            row[0], row[1], row[2], row[3], row[4], ended, 1, row[7], row[8], len,
-        ];
-        return ChainsAnswer::Chains(n);
+        table[i] = ChainRow {
+            closed: f.last,
+            copied: true,
+            len: row.len + f.len,
+            ..row
+        };
+        return Ok(n);
     }
-    ChainsAnswer::Refused(Refusal::FragmentWithoutFirst)
+    Err(Refusal::FragmentWithoutFirst)
 }
 
 // Takes one more fragment into the table, whose first n rows are the chains of those before it.
-fn take_fragment(table: &mut [[usize; 10]], n: usize, f: FragmentNumbers) -> ChainsAnswer
+fn take_fragment(table: &mut [ChainRow], n: usize, f: FragmentNumbers) -> Result<usize, Refusal>
     requires n_in_bounds { n ≤ length table.old }
     requires len_bound { total (take n table.old) + f.len < 2 ^ 64 }
-    ensures { Took table.old table.new n f (chains_outcome result) }
+    ensures { Took table.old table.new n f (outcome result) }
 {
     let i = find_row(&table[..n], f.id);
     if f.first {
@@ -186,32 +153,24 @@ fn take_fragment(table: &mut [[usize; 10]], n: usize, f: FragmentNumbers) -> Cha
     }
 }
 
-// Finds the chains of the set that is open at `from`: their rows fill the table, whose length is the limit.
-pub(crate) fn find_chains(s: &[u8], from: usize, table: &mut [[usize; 10]]) -> ChainsAnswer
-    requires { InSet s.now from }
-    ensures { FoundChains (fragments_left s.now from) (length s.now) table.new (chains_outcome result) }
+// Finds the chains of an open set: their rows fill the table, whose length is the limit.
+pub(crate) fn find_chains(set: OpenSet<'_>, table: &mut [ChainRow]) -> Result<usize, Refusal>
+    ensures { FoundChains (fragments_left set.entry.stream.now set.entry.from) (length set.entry.stream.now) table.new (outcome result) }
 {
-    let mut at = from;
+    let s = set.stream;
+    let mut at = set.from;
     let mut n: usize = 0;
+    // Stays a loop: the step is the size of the segment just read, which no range counts.
     loop {
         let header = header_at(s, at);
-        let used = 13 + header.segment_size as usize;
-        let kind = SegmentType::from_raw(header.segment_type);
+        let used = SegmentHeader::SIZE + header.segment_size as usize;
+        let kind = SegmentType::from(header.segment_type);
         if is_end(kind) {
-            return ChainsAnswer::Chains(n);
+            return Ok(n);
         }
         if is_ods(kind) {
-            match take_fragment(table, n, read_fragment(s, at, used)) {
-                ChainsAnswer::Refused(why) => {
-                    return ChainsAnswer::Refused(why);
-                }
-                ChainsAnswer::Chains(more) => {
-                    n = more;
-                    at += used;
-                }
-            }
-        } else {
-            at += used;
+            n = take_fragment(table, n, read_fragment(s, at, used))?;
         }
+        at += used;
     }
 }

@@ -5,7 +5,8 @@ ghost use Rattle.pgs_reassembly.specs.Objects.{joined, with_id};
 ghost use Rattle.pgs_reassembly.specs.Tables.{fragments_left, joined_in, joined_rows, Measured};
 
 use crate::chain::{is_ods, read_fragment};
-use pgs_segment::header::header_at;
+use pgs_reassembly::ChainRow;
+use pgs_segment::header::{SegmentHeader, header_at};
 use pgs_views::segment_type::SegmentType;
 
 // Joins the data of the fragments with this id, from the segment at `from` on: `out` is its own part of the scratch, exactly as long.
@@ -15,46 +16,35 @@ fn join_chain(s: &[u8], from: usize, id: usize, out: &mut [u8])
 {
     let mut at = from;
     let mut k: usize = 0;
+    // Stays a loop: the step is the size of the segment just read, which no range counts.
     while k < out.len() {
         let header = header_at(s, at);
-        let used = 13 + header.segment_size as usize;
-        if is_ods(SegmentType::from_raw(header.segment_type)) {
+        let used = SegmentHeader::SIZE + header.segment_size as usize;
+        if is_ods(SegmentType::from(header.segment_type)) {
             let f = read_fragment(s, at, used);
             if f.id == id {
-                let start = f.start;
-                let stop = start + f.len;
+                let stop = f.start + f.len;
                 let end = k + f.len;
-                out[k..end].copy_from_slice(&s[start..stop]);
+                out[k..end].copy_from_slice(&s[f.start..stop]);
                 k = end;
-                at += used;
-            } else {
-                at += used;
             }
-        } else {
-            at += used;
         }
+        at += used;
     }
 }
 
 // Joins the chains that are copied, one after another from the scratch's start, each in a part of its own.
-pub(crate) fn join_objects(s: &[u8], rows: &[[usize; 10]], scratch: &mut [u8])
+pub(crate) fn join_objects(s: &[u8], rows: &[ChainRow], scratch: &mut [u8])
     requires measured { Measured s.now rows.now }
     requires rows_in_bounds { joined_in rows.now ≤ length scratch.old }
     ensures { scratch.new ≡ laid accepted (joined_rows s.now rows.now) scratch.old }
 {
-    let mut i: usize = 0;
     let mut at: usize = 0;
-    while i < rows.len() {
-        let row = rows[i];
-        if row[6] == 0 {
-            i += 1;
-        } else {
-            let id = row[0];
-            let first = row[7];
-            let end = at + row[9];
-            join_chain(s, first, id, &mut scratch[at..end]);
+    for row in rows {
+        if row.copied {
+            let end = at + row.len;
+            join_chain(s, row.place, row.id, &mut scratch[at..end]);
             at = end;
-            i += 1;
         }
     }
 }

@@ -6,4 +6,3 @@ mod finding;
 mod joining;
 mod listing;
 pub mod object;
-mod walk;

@@ -26,11 +26,10 @@ pub fn object_data<'a>(stream: &'a [u8], scratch: &'a [u8], object: [u64; 7]) ->
     let holder = object[4];
     let place = object[5];
     let len = object[6];
-    if holder == 0 {
-        return part(stream, place, len);
+    // Stays a number: the record is a row of the C interface.
+    match holder {
+        0 => part(stream, place, len),
+        1 => part(scratch, place, len),
+        _ => &stream[..0],
     }
-    if holder == 1 {
-        return part(scratch, place, len);
-    }
-    &stream[..0]
 }

@@ -1,4 +1,5 @@
 -- How testing and reading an ODS body end, over its bytes. Assumes nothing.
+use Rattle.std.specs.Prelude.{None, Some}
 use mathlib.Core.Path.{◌≡◌, ap}
 use mathlib.Core.Bool.{Bool, true, false}
 use mathlib.Core.List.{List}
@@ -11,7 +12,6 @@ use Rattle.pgs_base.specs.Outcome.{gives, refuses, accepted, outcome_of, unless}
 use Rattle.pgs_base.proofs.Outcomes.{first_holds, second_holds, holds}
 use Rattle.pgs_views.specs.Fragments.{fragment_of, is_first}
 use Rattle.pgs_ods.specs.OdsBody.{flag_of, head_size, dimensions_of, ods_verdict, ods_list}
-use Rattle.pgs_ods.specs.declared.ods.Dimensions.TheVariants.{Absent, Present}
 
 pub head_first : {t : Bool} (flag : ℕ) → t ≡ is_first (fragment_of flag) → t ≡ true → head_size flag ≡ 11
 head_first flag e q = rw (← e, q)
@@ -39,8 +39,8 @@ module _ (b : List ℕ) where
   pub has-dimensions : ods_verdict b ≡ accepted → head_size (flag_of b) ≤ length b
   has-dimensions e = leb-true _ _ (holds 4 _ (second_holds (unless 4 (leb 7 (length b))) _ e))
 
-  pub present : {t : Bool} {w h : ℕ} → t ≡ is_first (fragment_of (flag_of b)) → t ≡ true → w ≡ num 2 7 b → h ≡ num 2 9 b → Present w h ≡ dimensions_of b
-  present e q ew eh = rw (← e, q) (λ k. Present (ew k) (eh k))
+  pub present : {t : Bool} {w h : ℕ} → t ≡ is_first (fragment_of (flag_of b)) → t ≡ true → w ≡ num 2 7 b → h ≡ num 2 9 b → Some (record { width = w; height = h }) ≡ dimensions_of b
+  present e q ew eh = rw (← e, q) (λ k. Some (record { width = ew k; height = eh k }))
 
-  pub absent : {t : Bool} → t ≡ is_first (fragment_of (flag_of b)) → t ≡ false → Absent ≡ dimensions_of b
+  pub absent : {t : Bool} → t ≡ is_first (fragment_of (flag_of b)) → t ≡ false → None ≡ dimensions_of b
   absent e q = rw (← e, q)

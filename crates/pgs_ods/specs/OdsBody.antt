@@ -1,17 +1,13 @@
 -- The body of an ODS. 01, module 3: "ODS: object id 2, version 1, fragment flag 1, declared length 3; if first, width 2 and height 2;
 -- the rest is data. Flag 80 is first, 40 last, C0 both; any other is a middle fragment."
 -- From US 2009/0185789, whose text is not at hand: 01 gives what is needed of it.
-use Rattle.std.specs.Prelude.{ℕ, ◌-◌, List, length, drop, leb}
+use Rattle.std.specs.Prelude.{ℕ, ◌-◌, List, length, drop, leb, Option, None, Some}
 use Rattle.pgs_base.specs.Bytes.{num}
 use Rattle.pgs_views.specs.Fragments.{fragment_of, is_first}
-use Rattle.pgs_base.specs.Outcome.{Verdict, Outcome, gives, refuses, and_then, unless, pick}
-use Rattle.pgs_base.specs.Refusals.{number_of}
+use Rattle.pgs_base.specs.Outcome.{Verdict, and_then, unless, pick}
 use Rattle.pgs_records.specs.declared.BodyList.{BodyList}
 use Rattle.pgs_ods.specs.declared.ods.Dimensions.{Dimensions}
-use Rattle.pgs_ods.specs.declared.ods.Dimensions.TheVariants.{Absent, Present}
 use Rattle.pgs_ods.specs.declared.ods.Ods.{Ods}
-use Rattle.pgs_ods.specs.declared.ods.OdsAnswer.{OdsAnswer}
-use Rattle.pgs_ods.specs.declared.ods.OdsAnswer.TheVariants.{Fragment, Refused}
 
 -- the fragment flag of a body
 abbrev pub flag_of : List ℕ → ℕ
@@ -21,8 +17,8 @@ flag_of b = num 1 3 b
 abbrev pub head_size : ℕ → ℕ
 head_size flag = pick (is_first (fragment_of flag)) 11 7
 
-abbrev pub dimensions_of : List ℕ → Dimensions
-dimensions_of b = pick (is_first (fragment_of (flag_of b))) (Present (num 2 7 b) (num 2 9 b)) Absent
+abbrev pub dimensions_of : List ℕ → Option Dimensions
+dimensions_of b = pick (is_first (fragment_of (flag_of b))) (Some (record { width = num 2 7 b; height = num 2 9 b })) None
 
 abbrev pub ods_of : List ℕ → Ods
 ods_of b =
@@ -45,8 +41,3 @@ ods_verdict b = and_then (unless 4 (leb 7 (length b))) (unless 4 (leb (head_size
 -- the data stands after the numbers
 abbrev pub ods_list : List ℕ → BodyList
 ods_list b = record { count = 0; start = head_size (flag_of b); len = length b - head_size (flag_of b) }
-
--- the numbers, and where the data stands
-abbrev pub ods_outcome : OdsAnswer → Outcome (Ods × BodyList)
-ods_outcome (Fragment o d) = gives (o, d)
-ods_outcome (Refused r) = refuses (number_of r)

@@ -1,26 +1,24 @@
 // The body of an ODS: an object, or one fragment of it (01, module 3).
 ghost use Rattle.std.specs.Prelude.{◌≡◌};
-ghost use Rattle.pgs_base.specs.Outcome.{outcome_of};
-ghost use Rattle.pgs_records.specs.Checks.{checked_outcome};
+ghost use Rattle.pgs_base.specs.Outcome.{outcome, outcome_of};
 ghost use Rattle.pgs_ods.specs.OdsBody.{
   head_size,
   dimensions_of,
   ods_of,
   ods_verdict,
   ods_list,
-  ods_outcome,
 };
 
 use pgs_base::refusal::Refusal;
 use pgs_fields::{u8_at, u16_at, u24_at};
-use pgs_records::{BodyList, Checked};
+use pgs_records::BodyList;
 use pgs_views::fragment_flag::FragmentFlag;
 
-// Width and height, which only a first fragment has.
+// The width and the height of an object.
 #[derive(Clone, Copy)]
-pub enum Dimensions {
-    Absent,
-    Present(u16, u16),
+pub struct Dimensions {
+    pub width: u16,
+    pub height: u16,
 }
 
 // The numbers of an ODS; its data stands in the body.
@@ -30,21 +28,15 @@ pub struct Ods {
     pub object_version_number: u8,
     pub last_in_sequence_flag: u8,
     pub object_data_length: u32,
-    pub dimensions: Dimensions,
-}
-
-// The numbers and where the data stands, or why there are none.
-#[derive(Clone, Copy)]
-pub enum OdsAnswer {
-    Fragment(Ods, BodyList),
-    Refused(Refusal),
+    // only a first fragment has them
+    pub dimensions: Option<Dimensions>,
 }
 
 // How many bytes stand before the data, by the fragment flag.
 fn head_size(flag: u8) -> usize
     ensures { result ≡ head_size flag }
 {
-    if FragmentFlag::from_raw(flag).is_first() {
+    if FragmentFlag::from(flag).is_first() {
         11
     } else {
         7
@@ -52,17 +44,17 @@ fn head_size(flag: u8) -> usize
 }
 
 // Whether the body is whole, and where its data stands.
-pub fn check_ods(body: &[u8]) -> Checked
-    ensures { checked_outcome result ≡ outcome_of (ods_verdict body.now) (ods_list body.now) }
+pub fn check_ods(body: &[u8]) -> Result<BodyList, Refusal>
+    ensures { outcome result ≡ outcome_of (ods_verdict body.now) (ods_list body.now) }
 {
     if body.len() < 7 {
-        return Checked::Refused(Refusal::FieldPastEnd);
+        return Err(Refusal::FieldPastEnd);
     }
     let start = head_size(u8_at(body, 3));
     if body.len() < start {
-        return Checked::Refused(Refusal::FieldPastEnd);
+        return Err(Refusal::FieldPastEnd);
     }
-    Checked::List(BodyList {
+    Ok(BodyList {
         count: 0,
         start,
         len: body.len() - start,
@@ -71,13 +63,16 @@ pub fn check_ods(body: &[u8]) -> Checked
 
 impl Ods {
     // The dimensions, by the fragment flag.
-    fn dimensions(body: &[u8]) -> Dimensions
+    fn dimensions(body: &[u8]) -> Option<Dimensions>
         ensures { result ≡ dimensions_of body.now }
     {
-        if FragmentFlag::from_raw(u8_at(body, 3)).is_first() {
-            Dimensions::Present(u16_at(body, 7), u16_at(body, 9))
+        if FragmentFlag::from(u8_at(body, 3)).is_first() {
+            Some(Dimensions {
+                width: u16_at(body, 7),
+                height: u16_at(body, 9),
+            })
         } else {
-            Dimensions::Absent
+            None
         }
     }
 
@@ -95,12 +90,10 @@ impl Ods {
     }
 
     // Reads a body; its data stays where it is.
-    pub fn parse(body: &[u8]) -> OdsAnswer
-        ensures { ods_outcome result ≡ outcome_of (ods_verdict body.now) (ods_of body.now, ods_list body.now) }
+    pub fn parse(body: &[u8]) -> Result<(Ods, BodyList), Refusal>
+        ensures { outcome result ≡ outcome_of (ods_verdict body.now) (ods_of body.now, ods_list body.now) }
     {
-        match check_ods(body) {
-            Checked::Refused(why) => OdsAnswer::Refused(why),
-            Checked::List(data) => OdsAnswer::Fragment(Ods::numbers(body), data),
-        }
+        let data = check_ods(body)?;
+        Ok((Ods::numbers(body), data))
     }
 }

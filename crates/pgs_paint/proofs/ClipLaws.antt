@@ -7,16 +7,13 @@ use native.Mathlib.Nat.{add-sub_cancel_left}
 use native.Mathlib.Omega.{arith}
 use borrow.Author.Tests.{le-leb, lt-leb, lt-ltb, ltb-true}
 use lib.Dec.{ltb}
+use Rattle.std.proofs.Math.Bool.{and-false}
 use Rattle.pgs_base.specs.Outcome.{pick}
 use Rattle.pgs_pcs.specs.declared.pcs.CompositionObjectCrop.{CompositionObjectCrop}
 use Rattle.pgs_pcs.specs.declared.pcs.CompositionObject.{CompositionObject}
 use Rattle.pgs_plane.specs.Placing.{Image, index_at, part_of, covered, part_shown, index_shown}
-use Rattle.pgs_paint.specs.Clipping.{Visible, Bounds, Exactly}
+use Rattle.pgs_paint.specs.Clipping.{Visible, Exactly}
 use Rattle.pgs_paint.specs.declared.paint.Shown.{Shown}
-
-and-false : (b : Bool) → (b && false) ≡ false
-and-false true = refl
-and-false false = refl
 
 -- ---- one axis
 
@@ -63,13 +60,6 @@ module _ (part : CompositionObjectCrop) (image : Image) (at_x at_y w h cols rows
         from_y = part.vertical_position;
         columns = cols;
         rows = rows;
-      }
-
-  pub clipped-inside : Bounds clipped image.image_width image.image_height w h
-  clipped-inside =
-      record {
-        columns_inside = λ some. (across.in_object some, across.in_plane some);
-        rows_inside = λ some. (down.in_object some, down.in_plane some);
       }
 
   abbrev across_at : ℕ → Bool

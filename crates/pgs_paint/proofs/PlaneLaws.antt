@@ -3,7 +3,7 @@ use mathlib.Core.Path.{◌≡◌, refl, sym, ap, ◌∙◌}
 use mathlib.Core.List.{List, ◌++◌, append_assoc, append-nil}
 use mathlib.Core.Bool.{Bool, true, false}
 use mathlib.Core.Option.{none}
-use Prim.Native.Nat.{ℕ, suc, ◌+◌, ◌*◌, ◌-◌, ◌^◌, ◌≤◌, ◌<◌}
+use Prim.Native.Nat.{ℕ, suc, ◌+◌, ◌*◌, ◌-◌, ◌≤◌, ◌<◌}
 use native.Mathlib.Nat.{mul-suc, mul-add, mul-zero, mul-le-mul_left, add_assoc, add-sub_cancel_left}
 use native.Mathlib.Omega.{arith}
 use lib.ListN.{length, take, drop, get_or, length-append, length-drop, take-append-drop}
@@ -17,7 +17,6 @@ use Rattle.pgs_plane.specs.Pictures.{Layer, color_over, row_painted, painted}
 use Rattle.pgs_paint.specs.Clipping.{Exactly, Bounds}
 use Rattle.pgs_paint.specs.declared.paint.Shown.{Shown}
 use Rattle.pgs_paint.proofs.RowLaws.{colors}
-use Rattle.pgs_plane.proofs.AreaLaws.{area-fits}
 use Rattle.pgs_plane.proofs.StripLaws.{pieces-add, pieces_kept, pieces-new}
 
 -- ---- numbers
@@ -154,25 +153,18 @@ index-lent iw ih bitmap j x c k h =
 pub record Room (s : Shown) (iw ih w h j : ℕ) : Type 0 where
   pub across : s.x + s.columns ≤ w
   pub down : s.y + j < h
-  pub deep : s.from_y + j < 65536
   pub source : iw * (s.from_y + j) + s.from_x + s.columns ≤ iw * ih
   pub target : 4 * w * (s.y + j) + 4 * s.x + 4 * s.columns ≤ 4 * w * h
-  pub bitmap-fits : iw * ih < 2 ^ 62
-  pub plane-fits : 4 * w * h < 2 ^ 62
 
-pub room : {s : Shown} {iw ih w h j : ℕ} → Bounds s iw ih w h → 0 < s.columns → j < s.rows → w < 65536 → h < 65536 → iw < 65536 → ih < 65536
-    → Room s iw ih w h j
-room {s} {iw} {ih} {w} {h} {j} b some more ww hh ii jj =
+pub room : {s : Shown} {iw ih w h j : ℕ} → Bounds s iw ih w h → 0 < s.columns → j < s.rows → Room s iw ih w h j
+room {s} {iw} {ih} {w} {h} {j} b some more =
     let c = b.columns_inside some in
     let r = b.rows_inside (omega arith) in
     record {
       across = c.1;
       down = omega (arith, r.1);
-      deep = omega (arith, r.0);
       source = omega (arith, row_inside iw ih (s.from_y + j) (s.from_x + s.columns) (omega (arith, r.0)) c.0);
       target = omega (arith, row_inside (4 * w) h (s.y + j) (4 * s.x + 4 * s.columns) (omega (arith, r.1)) (omega (arith, c.1)));
-      bitmap-fits = area-fits (omega arith) jj;
-      plane-fits = area-fits (omega arith) hh;
     }
 
 -- the part of the plane that is lent for it has four bytes for each index that is lent

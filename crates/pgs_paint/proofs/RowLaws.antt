@@ -1,11 +1,13 @@
 -- The colours of a row of indices, stored a pixel a turn. Assumes nothing.
 use mathlib.Core.Path.{◌≡◌, refl, sym, ap, ◌∙◌}
-use mathlib.Core.List.{List, [], ◌∷◌, ◌++◌, append-nil}
+use mathlib.Core.List.{List, ◌++◌, append-nil}
 use Prim.Native.Nat.{ℕ, ◌+◌, ◌*◌, ◌-◌, ◌≤◌}
-use native.Mathlib.Numerals.{towards_suc}
 use native.Mathlib.Omega.{arith}
 use lib.ListN.{length, get_or, take, drop, set, length-append, length-drop, drop_of_length-le}
-use lib.Seq.{sets, sets-eq, take_at, drop-append-add, drop-drop}
+use lib.Seq.{sets-eq, take_at, drop-append-add, drop-drop}
+use Rattle.pgs_palette.specs.Table.{pixel_of, pixel_at}
+use Rattle.pgs_palette.specs.declared.palette.Rgba8.{Rgba8}
+use Rattle.pgs_palette.proofs.Laying.{stored-pixel}
 use Rattle.pgs_plane.specs.Strips.{strip}
 use Rattle.pgs_plane.specs.Placing.{table_color}
 use Rattle.pgs_plane.proofs.StripLaws.{strip-more}
@@ -14,9 +16,6 @@ use Rattle.pgs_plane.proofs.StripLaws.{strip-more}
 abbrev pub colors : List ℕ → List ℕ → ℕ → List ℕ
 colors t pixels k = table_color t (get_or pixels k 0)
 
-four-stores : (row : List ℕ) (at a b c d : ℕ) → set (set (set (set row at a) (at + 1) b) (at + 2) c) (at + 3) d ≡ sets row at (a ∷ b ∷ c ∷ d ∷ [])
-four-stores row at a b c d = simp towards_suc
-
 -- nothing is stored yet
 pub row-begins : (t pixels start : List ℕ) → start ≡ strip (colors t pixels) 0 0 ++ drop (4 * 0) start
 unfolding strip
@@ -24,17 +23,16 @@ row-begins t pixels start = refl
 
 module _ (t pixels start row : List ℕ) (i : ℕ) (same : length row ≡ length start) (is : row ≡ strip (colors t pixels) 0 i ++ drop (4 * i) start) where
   -- one pixel more
-  pub pixel-stored : (p : ℕ) → p ≡ get_or pixels i 0 → 4 * i + 4 ≤ length start
-      → set (set (set (set row (4 * i) (get_or t (p * 4) 0)) (4 * i + 1) (get_or t (p * 4 + 1) 0)) (4 * i + 2) (get_or t (p * 4 + 2) 0)) (4 * i + 3) (get_or t (p * 4 + 3) 0)
-      ≡ strip (colors t pixels) 0 (i + 1) ++ drop (4 * (i + 1)) start
-  pixel-stored p e room =
+  pub pixel-stored : (c : Rgba8) → c ≡ pixel_at t (get_or pixels i 0) → 4 * i + 4 ≤ length start
+      → set (set (set (set row (4 * i) c.r) (4 * i + 1) c.g) (4 * i + 2) c.b) (4 * i + 3) c.a ≡ strip (colors t pixels) 0 (i + 1) ++ drop (4 * (i + 1)) start
+  pixel-stored c e room =
       let done = strip (colors t pixels) 0 i in
       let rest = drop (4 * i) start in
       let behind : length rest ≡ length start - 4 * i = length-drop (4 * i) start in
       let front : length done ≡ 4 * i = omega (arith, length-append done rest, ap length is) in
-      four-stores row (4 * i) _ _ _ _
-      ∙ sets-eq (table_color t p) row (4 * i) (omega arith)
-      ∙ (λ k. take (4 * i) (is k) ++ table_color t (e k) ++ drop (4 * i + 4) (is k))
+      stored-pixel row (4 * i) c
+      ∙ sets-eq (pixel_of c) row (4 * i) (omega arith)
+      ∙ (λ k. take (4 * i) (is k) ++ pixel_of (e k) ++ drop (4 * i + 4) (is k))
       ∙ (λ k. take_at done rest (4 * i) front k ++ colors t pixels i ++ drop (sym front k + 4) (done ++ rest))
       ∙ (λ k. done ++ colors t pixels i ++ (drop-append-add done rest 4 ∙ drop-drop 4 (4 * i) start) k)
       ∙ (λ k. strip-more (colors t pixels) i k ++ drop (next k) start)

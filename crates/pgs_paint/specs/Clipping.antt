@@ -18,17 +18,12 @@ pub record Bounds (s : Shown) (image_width image_height width height : ℕ) : Ty
   pub rows_inside : 0 < s.rows → (s.from_y + s.rows ≤ image_height) × (s.y + s.rows ≤ height)
 
 -- what painting them needs
-pub record Paintable (s : Shown) (image_width image_height : ℕ) (bitmap table : List ℕ) (width height : ℕ) (plane : List ℕ) : Type 0 where
+pub record Paintable (s : Shown) (image_width image_height : ℕ) (indices : List ℕ) (width height : ℕ) (plane : List ℕ) : Type 0 where
   pub some_columns : 0 < s.columns
   pub some_rows : 0 < s.rows
   pub bounds : Bounds s image_width image_height width height
-  pub narrow_image : image_width < 65536
-  pub low_image : image_height < 65536
-  pub narrow : width < 65536
-  pub low : height < 65536
   pub plane_room : 4 * width * height ≤ length plane
-  pub table_room : 1024 ≤ length table
-  pub bitmap_room : image_width * image_height ≤ length bitmap
+  pub image_room : image_width * image_height ≤ length indices
 
 -- on the plane the layer has these pixels and no other
 pub record Exactly (layer : Layer) (s : Shown) (image : Image) (width height : ℕ) : Type 0 where

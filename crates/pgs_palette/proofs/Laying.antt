@@ -2,7 +2,7 @@
 -- Assumes nothing.
 use mathlib.Core.Path.{◌≡◌, refl, sym, ap, ◌∙◌}
 use mathlib.Core.Bool.{Bool}
-use mathlib.Core.List.{List, [], ◌∷◌, ◌++◌, map}
+use mathlib.Core.List.{List, [], ◌∷◌, ◌++◌, map, append_assoc}
 use mathlib.Core.Option.{Option, none, some}
 use Prim.Native.Nat.{ℕ, zero, suc, ◌+◌, ◌*◌, ◌≤◌, ◌<◌}
 use native.Mathlib.Nat.{add-zero, zero-add, add-suc, le_refl, le_of_suc-le-suc, not-suc-le-zero}
@@ -11,7 +11,7 @@ use native.Mathlib.Omega.{arith}
 use borrow.Author.Tests.{eq-eqb, ne_eqb}
 use lib.Dec.{eqb, lit<}
 use lib.ListN.{length, get_or, take, drop, set, replicate, length-append, length-drop, length-replicate, take-append-drop, get_or-replicate, get_or-append, drop_of_length-le}
-use lib.Seq.{sets, sets-eq, take_at, drop_at, length-take-le, take-set-le, drop-set-add, get_or-append-add, get_or-take, drop-cons}
+use lib.Seq.{sets, sets-eq, take_at, drop_at, length-take-le, take-set-le, take-add, drop-drop, drop-set-add, get_or-append-add, get_or-take, drop-cons}
 use Rattle.pgs_base.specs.Outcome.{pick}
 use Rattle.pgs_palette.specs.Palette.{Entry, entry_of, applying, or_else, lookup, Conversion, color_of, color_at, entry_or, transparent}
 use Rattle.pgs_palette.specs.Table.{pixel_of, pixel_over, laid_from, laid, cleared, pixel_at}
@@ -109,6 +109,23 @@ module _ (convert : Conversion) where
       k
       ++ (from-append xs ys n (suc i) (drop 4 t) (rest n t h) ∙ ap (λ (l : List ℕ). laid_from convert ys n (suc i) l) (sym (drop_at p r 4 four))) k
 
+  -- ---- what is behind the pixels stays
+
+  from-front : (es : List Entry) (n i : ℕ) (t : List ℕ) → n * 4 ≤ length t
+      → laid_from convert es n i (take (n * 4) t) ++ drop (n * 4) t ≡ laid_from convert es n i t
+  unfolding laid_from
+  from-front es zero i t h = take-append-drop (zero * 4) t
+  from-front es (suc n) i t h =
+      let a = take 4 t in
+      let b = take (n * 4) (drop 4 t) in
+      let four = front n t h in
+      let all : suc n * 4 ≡ 4 + n * 4 = omega arith in
+      ap (λ (l : List ℕ). laid_from convert es (suc n) i l ++ drop (suc n * 4) t) (ap (λ (m : ℕ). take m t) all ∙ take-add 4 (n * 4) t)
+      ∙ (λ k. (pixel_over convert (lookup es i) (take_at a b 4 four k) ++ laid_from convert es n (suc i) (drop_at a b 4 four k)) ++ drop (suc n * 4) t)
+      ∙ append_assoc (pixel_over convert (lookup es i) a) (laid_from convert es n (suc i) b) (drop (suc n * 4) t)
+      ∙ ap (λ (l : List ℕ). pixel_over convert (lookup es i) a ++ (laid_from convert es n (suc i) b ++ l)) (ap (λ (m : ℕ). drop m t) all ∙ sym (drop-drop (n * 4) 4 t))
+      ∙ ap (λ (l : List ℕ). pixel_over convert (lookup es i) a ++ l) (from-front es n (suc i) (drop 4 t) (rest n t h))
+
   -- ---- one entry is four stores
 
   one_entry : (e : Entry) (n i k : ℕ) (t : List ℕ) → n * 4 ≤ length t → e.entry_id ≡ i + k → k < n
@@ -140,6 +157,11 @@ module _ (convert : Conversion) where
   pub laid-length : (es : List Entry) (t : List ℕ) → 1024 ≤ length t → length (laid convert es t) ≡ length t
   unfolding laid
   laid-length es t h = from-length convert es 256 0 t h
+
+  -- laid over the front alone
+  pub laid-front : (es : List Entry) (t : List ℕ) → 1024 ≤ length t → laid convert es (take 1024 t) ++ drop 1024 t ≡ laid convert es t
+  unfolding laid
+  laid-front es t h = from-front convert es 256 0 t h
 
   -- the entries of two lists, one after the other
   pub laid-append : (xs ys : List Entry) (t : List ℕ) → 1024 ≤ length t → laid convert (xs ++ ys) t ≡ laid convert ys (laid convert xs t)
@@ -236,11 +258,6 @@ zeros-length n t h = simp (length-append, length-replicate, length-drop) (omega 
 
 zeros-byte : (n : ℕ) (r : List ℕ) (j : ℕ) → j < n → get_or (replicate n 0 ++ r) j 0 ≡ 0
 zeros-byte n r j h = get_or-append (replicate n 0) r 0 j (rw length-replicate h) ∙ get_or-replicate n j 0 0 h
-
--- all 1,024 zeros are stored
-pub cleared-end : (t after : List ℕ) (k : ℕ) → k ≤ 1024 → 1024 ≤ k → after ≡ replicate k 0 ++ drop k t → after ≡ cleared t
-unfolding cleared
-cleared-end t after k h past e = let all : k ≡ 1024 = omega arith in e ∙ ap (λ (n : ℕ). replicate n 0 ++ drop n t) all
 
 pub cleared-length : (t : List ℕ) → 1024 ≤ length t → length (cleared t) ≡ length t
 unfolding cleared

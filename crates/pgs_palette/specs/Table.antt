@@ -1,14 +1,9 @@
 -- A palette as lent bytes: R, G, B and alpha for each index from 0 to 255.
 use Rattle.std.specs.Prelude.{◌≡◌, List, [], ◌∷◌, ◌++◌, ℕ, zero, suc, ◌+◌, ◌*◌, Bool, leb, length, get_or, take, drop, replicate}
 use Rattle.std.proofs.Math.Option.{Option}
-use Rattle.pgs_base.specs.Refusals.{number_of}
-use Rattle.pgs_base.specs.Outcome.{Verdict, accepted, refused, unless, Outcome, gives, refuses, pick}
+use Rattle.pgs_base.specs.Outcome.{Verdict, unless, pick}
 use Rattle.pgs_palette.specs.Palette.{Entry, lookup, Conversion, color_of, entry_or}
 use Rattle.pgs_palette.specs.declared.palette.Rgba8.{Rgba8}
-use Rattle.pgs_palette.specs.declared.palette.Updated.{Updated}
-use Rattle.pgs_palette.specs.declared.palette.Updated.TheVariants.{Done, Refused}
-use Rattle.pgs_palette.specs.declared.palette.Looked.{Looked}
-use Rattle.pgs_palette.specs.declared.palette.Looked.TheVariants as Looks
 
 -- 01, 'Plane': "Pixels are R, G, B, alpha"
 abbrev pub pixel_of : Rgba8 → List ℕ
@@ -38,14 +33,6 @@ pixel_at t i = record { r = get_or t (i * 4) 0; g = get_or t (i * 4 + 1) 0; b = 
 -- a table needs four bytes for each of the 256 indices: 34 where it has fewer
 abbrev pub holds : List ℕ → Bool
 holds t = leb 1024 (length t)
-
-abbrev pub update_of : Updated → Verdict
-update_of Done = accepted
-update_of (Refused k) = refused (number_of k)
-
-abbrev pub look_of : Looked → Outcome Rgba8
-look_of (Looks.Color c) = gives c
-look_of (Looks.Refused k) = refuses (number_of k)
 
 -- a call that changes a lent table by `change`, or refuses it and leaves it
 pub record Updates (change : List ℕ → List ℕ) (answer : Verdict) (before after : List ℕ) : Type 0 where

@@ -1,28 +1,27 @@
 -- How testing and reading a PCS body end, over its bytes, and that a crop is told by its cells. Assumes nothing.
-use mathlib.Core.Path.{◌≡◌, refl, sym, ap, ◌∙◌}
-use mathlib.Core.Bool.{Bool, true, false}
+use mathlib.Core.Path.{◌≡◌, refl, sym, ◌∙◌}
+use mathlib.Core.Bool.{true}
 use mathlib.Core.List.{List, ◌∷◌, map}
-use Prim.Native.Nat.{ℕ, ◌≤◌, ◌<◌}
-use native.Mathlib.Omega.{arith}
-use borrow.Author.Tests.{leb-true, le-leb, lt-leb, eq-eqb, ne_eqb}
+use Prim.Native.Nat.{ℕ, ◌-◌, ◌≤◌}
+use borrow.Author.Tests.{leb-true, le-leb, eq-eqb, ne_eqb}
 use lib.Dec.{leb}
-use lib.ListN.{length, drop}
+use lib.ListN.{length, take, drop}
 use Rattle.pgs_base.specs.Bytes.{num}
-use Rattle.pgs_base.specs.Outcome.{Outcome, gives, refuses, accepted, outcome_of, unless, pick}
-use Rattle.pgs_base.proofs.Outcomes.{first_holds, second_holds, holds}
-use Rattle.pgs_records.specs.Records.{records_fit, records_size}
-use Rattle.pgs_pcs.specs.PcsBody.{cropped, cropping_of, placement_of, placement_size, crop_cells, crop_from}
-use Rattle.pgs_pcs.specs.PcsBody.{placement_row, placements_of, placement_rows, placement_count, placements_at}
+use Rattle.pgs_base.specs.Outcome.{Outcome, gives, refuses, accepted, outcome_of, unless, Delivered}
+use Rattle.pgs_base.proofs.Lists.{to_end}
+use Rattle.pgs_base.proofs.Outcomes.{gave, gave-value, turned_down, gives_as, refuses-as, first_holds, second_holds, holds}
+use Rattle.pgs_records.specs.Records.{records, records_fit, records_size}
+use Rattle.pgs_pcs.specs.PcsBody.{cropping_of, placement_of, placement_size, crop_cells, crop_from}
+use Rattle.pgs_pcs.specs.PcsBody.{placement_row, placements_of, placement_rows, placement_count}
 use Rattle.pgs_pcs.specs.PcsBody.{pcs_verdict, pcs_list}
-use Rattle.pgs_records.specs.declared.BodyList.{BodyList}
-use Rattle.pgs_pcs.specs.declared.pcs.Cropping.{Cropping}
-use Rattle.pgs_pcs.specs.declared.pcs.Cropping.TheVariants.{Uncropped, Cropped}
+use Rattle.pgs_pcs.specs.declared.pcs.CompositionObjectCrop.{CompositionObjectCrop}
+use Rattle.std.specs.Prelude.{Option, None, Some}
 use Rattle.pgs_records.proofs.RecordLaws.{rows-length}
 
 -- a crop is told by its cells
-pub crop-back : (a b c d e : ℕ) (k : Cropping) → crop_from (a ∷ b ∷ c ∷ d ∷ e ∷ crop_cells k) ≡ k
-crop-back a b c d e Uncropped = refl
-crop-back a b c d e (Cropped crop) = refl
+pub crop-back : (a b c d e : ℕ) (k : Option CompositionObjectCrop) → crop_from (a ∷ b ∷ c ∷ d ∷ e ∷ crop_cells k) ≡ k
+crop-back a b c d e None = refl
+crop-back a b c d e (Some crop) = refl
 
 -- a placement takes 16 bytes where its flag is 40, else 8
 module _ (l : List ℕ) where
@@ -32,40 +31,41 @@ module _ (l : List ℕ) where
   pub size-plain : {f : ℕ} → f ≡ num 1 3 l → (f ≡ 0x40 → ⊥) → placement_size l ≡ 8
   size-plain e q = simp (ne_eqb (num 1 3 l) 0x40 (λ h. q (e ∙ h)))
 
-  pub size-least : 8 ≤ placement_size l
-  size-least = go (cropped l)
-    where
-      go : (t : Bool) → 8 ≤ pick t 16 8
-      go true = omega arith
-      go false = omega arith
-
   pub crop-read : {f x y w h : ℕ} → f ≡ num 1 3 l → f ≡ 0x40 → x ≡ num 2 8 l → y ≡ num 2 10 l → w ≡ num 2 12 l → h ≡ num 2 14 l
-      → Cropped (record { horizontal_position = x; vertical_position = y; width = w; height = h }) ≡ cropping_of l
+      → Some (record { horizontal_position = x; vertical_position = y; width = w; height = h }) ≡ cropping_of l
   crop-read e q ex ey ew eh =
       simp (eq-eqb (num 1 3 l) 0x40 (sym e ∙ q))
-      (λ k. Cropped (record { horizontal_position = ex k; vertical_position = ey k; width = ew k; height = eh k }))
+      (λ k. Some (record { horizontal_position = ex k; vertical_position = ey k; width = ew k; height = eh k }))
 
-  pub no-crop : {f : ℕ} → f ≡ num 1 3 l → (f ≡ 0x40 → ⊥) → Uncropped ≡ cropping_of l
+  pub no-crop : {f : ℕ} → f ≡ num 1 3 l → (f ≡ 0x40 → ⊥) → None ≡ cropping_of l
   no-crop e q = simp (ne_eqb (num 1 3 l) 0x40 (λ h. q (e ∙ h)))
 
 module _ (b : List ℕ) where
-  -- the walk over n placements
-  pub cut-placement : (n : ℕ) → records_fit placement_size n (drop 11 b) ≡ false
-      → refuses 4 ≡ outcome_of (unless 4 (records_fit placement_size n (drop 11 b))) (placements_at n b)
-  cut-placement n e = rw e
+  -- what follows the count
+  abbrev after_count : List ℕ
+  after_count = take (length b - 11) (drop 11 b)
 
-  pub whole-placements : (n : ℕ) {len : ℕ} → records_fit placement_size n (drop 11 b) ≡ true → len ≡ records_size placement_size n (drop 11 b)
-      → gives (record { count = n; start = 11; len = len }) ≡ outcome_of (unless 4 (records_fit placement_size n (drop 11 b))) (placements_at n b)
-  whole-placements n e q = rw e (ap (λ (k : ℕ). gives (record { count = n; start = 11; len = k })) q)
+  module _ (h : 11 ≤ length b) {n : ℕ} (e : n ≡ placement_count b) where
+    pub placements-walked : {len : ℕ}
+        → gives len ≡ outcome_of (unless 4 (records_fit placement_size n after_count)) (records_size placement_size n after_count)
+        → gives (record { count = n; start = 11; len = len }) ≡ outcome_of (pcs_verdict b) (pcs_list b)
+    placements-walked {len} w =
+        let all = gave (unless 4 (records_fit placement_size n after_count)) (records_size placement_size n after_count) w in
+        let size = gave-value (unless 4 (records_fit placement_size n after_count)) (records_size placement_size n after_count) w in
+        gives_as (simp (le-leb 11 (length b) h) (rw (to_end 11 b, e) at all)) (rw (size, to_end 11 b, e))
 
-  pub short-numbers : length b < 11 → refuses 4 ≡ outcome_of (pcs_verdict b) (pcs_list b)
-  short-numbers h = simp (lt-leb 11 (length b) h)
+    pub placements-cut : {k : ℕ}
+        → refuses k ≡ outcome_of (unless 4 (records_fit placement_size n after_count)) (records_size placement_size n after_count)
+        → refuses k ≡ outcome_of (pcs_verdict b) (pcs_list b)
+    placements-cut w =
+        let cut = turned_down (unless 4 (records_fit placement_size n after_count)) (records_size placement_size n after_count) w in
+        refuses-as (pcs_list b) (simp (le-leb 11 (length b) h) (rw (to_end 11 b, e) at cut))
 
-  pub as-walked : {o : Outcome BodyList} {n : ℕ} → 11 ≤ length b → n ≡ placement_count b
-      → o ≡ outcome_of (unless 4 (records_fit placement_size n (drop 11 b))) (placements_at n b) → o ≡ outcome_of (pcs_verdict b) (pcs_list b)
-  as-walked h e q =
-      simp (le-leb 11 (length b) h)
-      (q ∙ ap (λ (k : ℕ). outcome_of (unless 4 (records_fit placement_size k (drop 11 b))) (placements_at k b)) e)
+    pub placements-delivered : {X : Type 0} {x : X} {before now : List (List ℕ)} {answer : Outcome X}
+        → Delivered (unless 4 (records_fit placement_size n after_count)) x (map placement_row (records placement_of placement_size n after_count)) before now answer
+        → Delivered (pcs_verdict b) x (placement_rows b) before now answer
+    unfolding placement_rows
+    placements-delivered d = simp (le-leb 11 (length b) h) (rw (to_end 11 b, e) at d)
 
   -- an accepted body has its numbers and its placements
   pub has-numbers : pcs_verdict b ≡ accepted → 11 ≤ length b

@@ -2,18 +2,14 @@
 -- point, 80 epoch start, others kept), palette update flag 1 (80 means update), palette id 1, count 1, then placements: object id 2,
 -- window id 1, crop flag 1, x 2, y 2; only if the flag is exactly 40, then crop x, y, width, height, 2 each."
 -- From US 2009/0185789, whose text is not at hand: 01 gives what is needed of it.
-use Rattle.std.specs.Prelude.{ℕ, Bool, List, [], ◌∷◌, map, length, drop, get_or, leb, eqb}
+use Rattle.pgs_pcs.specs.declared.pcs.CompositionObjectCrop.{CompositionObjectCrop}
+use Rattle.std.specs.Prelude.{ℕ, Bool, List, [], ◌∷◌, map, length, drop, get_or, leb, eqb, Option, None, Some}
 use Rattle.pgs_base.specs.Bytes.{num}
-use Rattle.pgs_base.specs.Outcome.{Verdict, Outcome, gives, refuses, and_then, unless, pick}
-use Rattle.pgs_base.specs.Refusals.{number_of}
+use Rattle.pgs_base.specs.Outcome.{Verdict, and_then, unless, pick}
 use Rattle.pgs_records.specs.Records.{records, records_fit, records_size}
 use Rattle.pgs_records.specs.declared.BodyList.{BodyList}
-use Rattle.pgs_pcs.specs.declared.pcs.Cropping.{Cropping}
-use Rattle.pgs_pcs.specs.declared.pcs.Cropping.TheVariants.{Uncropped, Cropped}
 use Rattle.pgs_pcs.specs.declared.pcs.CompositionObject.{CompositionObject}
 use Rattle.pgs_pcs.specs.declared.pcs.Pcs.{Pcs}
-use Rattle.pgs_pcs.specs.declared.pcs.PcsAnswer.{PcsAnswer}
-use Rattle.pgs_pcs.specs.declared.pcs.PcsAnswer.TheVariants.{Placements, Refused}
 
 -- whether the placement at the front of l has a crop: its flag is exactly 40
 abbrev pub cropped : List ℕ → Bool
@@ -22,12 +18,12 @@ cropped l = eqb (num 1 3 l) 0x40
 abbrev pub placement_size : List ℕ → ℕ
 placement_size l = pick (cropped l) 16 8
 
-abbrev pub cropping_of : List ℕ → Cropping
+abbrev pub cropping_of : List ℕ → Option CompositionObjectCrop
 cropping_of l =
     pick (cropped l)
-    (Cropped
+    (Some
     (record { horizontal_position = num 2 8 l; vertical_position = num 2 10 l; width = num 2 12 l; height = num 2 14 l }))
-    Uncropped
+    None
 
 -- one placement, from the bytes at its start
 abbrev pub placement_of : List ℕ → CompositionObject
@@ -42,15 +38,15 @@ placement_of l =
     }
 
 -- whether a crop is present, and its four numbers, 0 where it is absent
-abbrev pub crop_cells : Cropping → List ℕ
-crop_cells Uncropped = 0 ∷ 0 ∷ 0 ∷ 0 ∷ 0 ∷ []
-crop_cells (Cropped c) = 1 ∷ c.horizontal_position ∷ c.vertical_position ∷ c.width ∷ c.height ∷ []
+abbrev pub crop_cells : Option CompositionObjectCrop → List ℕ
+crop_cells None = 0 ∷ 0 ∷ 0 ∷ 0 ∷ 0 ∷ []
+crop_cells (Some c) = 1 ∷ c.horizontal_position ∷ c.vertical_position ∷ c.width ∷ c.height ∷ []
 
 -- and back: the crop that a record of ten cells says; where the mark is 0 the other cells are ignored
-abbrev pub crop_from : List ℕ → Cropping
+abbrev pub crop_from : List ℕ → Option CompositionObjectCrop
 crop_from r =
-    pick (eqb (get_or r 5 0) 0) Uncropped
-    (Cropped
+    pick (eqb (get_or r 5 0) 0) None
+    (Some
     (record { horizontal_position = get_or r 6 0; vertical_position = get_or r 7 0; width = get_or r 8 0; height = get_or r 9 0 }))
 
 -- a placement as a record of a caller's list
@@ -95,8 +91,3 @@ placements_at n b = record { count = n; start = 11; len = records_size placement
 
 abbrev pub pcs_list : List ℕ → BodyList
 pcs_list b = placements_at (placement_count b) b
-
--- the numbers, and how many placements
-abbrev pub pcs_outcome : PcsAnswer → Outcome (Pcs × ℕ)
-pcs_outcome (Placements p n) = gives (p, n)
-pcs_outcome (Refused r) = refuses (number_of r)

@@ -2,14 +2,11 @@
 -- From US 2009/0185789, whose text is not at hand: 01 gives what is needed of it.
 use Rattle.std.specs.Prelude.{ℕ, ◌-◌, ◌/◌, ◌%◌, List, [], ◌∷◌, map, length, drop, leb, eqb}
 use Rattle.pgs_base.specs.Bytes.{num}
-use Rattle.pgs_base.specs.Outcome.{Verdict, Outcome, gives, refuses, and_then, unless}
-use Rattle.pgs_base.specs.Refusals.{number_of}
+use Rattle.pgs_base.specs.Outcome.{Verdict, and_then, unless}
 use Rattle.pgs_records.specs.Records.{records}
 use Rattle.pgs_records.specs.declared.BodyList.{BodyList}
 use Rattle.pgs_pds.specs.declared.pds.PaletteEntry.{PaletteEntry}
 use Rattle.pgs_pds.specs.declared.pds.Pds.{Pds}
-use Rattle.pgs_pds.specs.declared.pds.PdsAnswer.{PdsAnswer}
-use Rattle.pgs_pds.specs.declared.pds.PdsAnswer.TheVariants.{Entries, Refused}
 
 -- one entry, from the bytes at its start
 abbrev pub entry_of : List ℕ → PaletteEntry
@@ -42,8 +39,3 @@ pds_verdict b = and_then (unless 4 (leb 2 (length b))) (unless 5 (eqb ((length b
 
 abbrev pub pds_list : List ℕ → BodyList
 pds_list b = record { count = entry_count b; start = 2; len = length b - 2 }
-
--- the numbers, and how many entries
-abbrev pub pds_outcome : PdsAnswer → Outcome (Pds × ℕ)
-pds_outcome (Entries p n) = gives (p, n)
-pds_outcome (Refused r) = refuses (number_of r)

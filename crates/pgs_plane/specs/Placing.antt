@@ -1,10 +1,9 @@
 -- What one placement shows: 01, 'Plane'.
 use Rattle.std.specs.Prelude.{Bool, ◌&&◌, List, [], ◌∷◌, ℕ, ◌+◌, ◌-◌, ◌*◌, leb, ltb, get_or, drop}
+use Rattle.std.specs.Prelude as prelude
 use Rattle.std.proofs.Math.Option.{Option, none, some}
 use Rattle.pgs_base.specs.Outcome.{pick}
 use Rattle.pgs_pcs.specs.declared.pcs.CompositionObjectCrop.{CompositionObjectCrop}
-use Rattle.pgs_pcs.specs.declared.pcs.Cropping.{Cropping}
-use Rattle.pgs_pcs.specs.declared.pcs.Cropping.TheVariants.{Uncropped, Cropped}
 use Rattle.pgs_pcs.specs.declared.pcs.CompositionObject.{CompositionObject}
 
 -- an object's bitmap: palette indices, row by row
@@ -21,9 +20,9 @@ abbrev pub index_at : Image → ℕ → ℕ → ℕ
 index_at image i j = get_or (drop (image.image_width * j) image.indices) i 0
 
 -- "Without a crop the whole object is used."
-abbrev pub part_of : Cropping → ℕ → ℕ → CompositionObjectCrop
-part_of Uncropped width height = record { horizontal_position = 0; vertical_position = 0; width = width; height = height }
-part_of (Cropped crop) width height = crop
+abbrev pub part_of : prelude.Option CompositionObjectCrop → ℕ → ℕ → CompositionObjectCrop
+part_of prelude.None width height = record { horizontal_position = 0; vertical_position = 0; width = width; height = height }
+part_of (prelude.Some crop) width height = crop
 
 -- Whether the plane's column or row z is covered, on one axis. "The top left pixel of the crop, or of the object, belongs at the
 -- placement's x and y": z shows the pixel `from + (z - at)`, where that is "inside both crop and object".

@@ -6,30 +6,20 @@ use Prim.Native.Nat.{ℕ, zero, suc, ◌+◌, ◌≤◌, ◌<◌}
 use native.Mathlib.Omega.{arith}
 use borrow.Author.Tests.{eq-eqb, ne_eqb, eqb-true, eqb-false}
 use lib.Dec.{eqb}
-use lib.ListN.{length, drop, set, get_or, length-append, drop_of_length-le}
+use lib.ListN.{length, set, get_or, length-append}
 use Rattle.pgs_base.specs.Outcome.{pick}
 use Rattle.pgs_set.proofs.Choices.{pick_first, pick_second}
-use Rattle.pgs_reassembly.proofs.Lists.{drop-next}
 use Rattle.pgs_reassembly.specs.Objects.{Fragment, Chain, unseen, continuing, complete, id_of, opens_chain}
 use Rattle.pgs_reassembly.specs.Objects.{closes_chain, data_place, object_id, with_id, chains_of, any_last, ended}
 use Rattle.pgs_reassembly.specs.Objects.{joined, state_of, declared_length, version_of, width_of, height_of}
 use Rattle.pgs_reassembly.specs.Reassembly.{any_more}
 use Rattle.pgs_reassembly.specs.Tables.{fragment_numbers, chain_row, row_with, total, Distinct}
+use Rattle.pgs_reassembly.specs.declared.ChainRow.{ChainRow}
 use Rattle.pgs_reassembly.specs.declared.FragmentNumbers.{FragmentNumbers}
 
--- the loop that finds an id
-module _ (rows : List (List ℕ)) (id i : ℕ) where
-  pub row_here : i + row_with id (drop i rows) ≡ row_with id rows → i < length rows → get_or (get_or rows i []) 0 0 ≡ id → i ≡ row_with id rows
-  row_here e h q =
-      omega (arith, ap (row_with id) (drop-next rows i [] h) ∙ pick_first 0 (suc (row_with id (drop (i + 1) rows))) (eq-eqb _ _ q))
-
-  pub row_on : i + row_with id (drop i rows) ≡ row_with id rows → i < length rows → (get_or (get_or rows i []) 0 0 ≡ id → ⊥)
-      → i + 1 + row_with id (drop (i + 1) rows) ≡ row_with id rows
-  row_on e h q =
-      omega (arith, ap (row_with id) (drop-next rows i [] h) ∙ pick_second 0 (suc (row_with id (drop (i + 1) rows))) (ne_eqb _ _ q))
-
-  pub row-none : i ≤ length rows → i + row_with id (drop i rows) ≡ row_with id rows → length rows ≤ i → i ≡ row_with id rows
-  row-none k e h = omega (arith, ap (row_with id) (drop_of_length-le rows h))
+-- a row that stands for none
+abbrev pub no_row : ChainRow
+no_row = record { id = 0; version = 0; width = 0; height = 0; declared = 0; closed = false; copied = false; place = 0; start = 0; len = 0 }
 
 -- one more fragment at the end
 
@@ -123,19 +113,15 @@ distinct-added g (c ∷ cs) d e =
 
 -- it is found in a row: the row says whether its chain is closed
 pub state-found : (id : ℕ) (cs : List Chain) → row_with id (map chain_row cs) < length cs
-    → state_of id cs ≡ pick (eqb (get_or (get_or (map chain_row cs) (row_with id (map chain_row cs)) []) 5 0) 0) continuing complete
+    → state_of id cs ≡ pick (get_or (map chain_row cs) (row_with id (map chain_row cs)) no_row).closed complete continuing
 state-found id [] h = absurd (omega arith)
 state-found id (c ∷ cs) h = go (eqb (object_id c) id) h (state-found id cs)
   where
-    flag : (t : Bool) → pick t complete continuing ≡ pick (eqb (pick t 1 0) 0) continuing complete
-    flag true = refl
-    flag false = refl
-
     go : (b : Bool) → pick b 0 (suc (row_with id (map chain_row cs))) < suc (length cs)
-        → (row_with id (map chain_row cs) < length cs → state_of id cs ≡ pick (eqb (get_or (get_or (map chain_row cs) (row_with id (map chain_row cs)) []) 5 0) 0) continuing complete)
+        → (row_with id (map chain_row cs) < length cs → state_of id cs ≡ pick (get_or (map chain_row cs) (row_with id (map chain_row cs)) no_row).closed complete continuing)
         → pick b (pick (ended c) complete continuing) (state_of id cs)
-        ≡ pick (eqb (get_or (get_or (chain_row c ∷ map chain_row cs) (pick b 0 (suc (row_with id (map chain_row cs)))) []) 5 0) 0) continuing complete
-    go true k ih = flag (ended c)
+        ≡ pick (get_or (chain_row c ∷ map chain_row cs) (pick b 0 (suc (row_with id (map chain_row cs)))) no_row).closed complete continuing
+    go true k ih = refl
     go false k ih = ih (omega arith)
 
 -- it is found in none
@@ -149,19 +135,8 @@ state-unseen id (c ∷ cs) h = go (eqb (object_id c) id) h (state-unseen id cs)
     go false k ih = ih (omega arith)
 
 -- the row of a chain that takes a continuation
-abbrev pub grow : List ℕ → FragmentNumbers → List ℕ
-grow r h =
-    get_or r 0 0
-    ∷ get_or r 1 0
-    ∷ get_or r 2 0
-    ∷ get_or r 3 0
-    ∷ get_or r 4 0
-    ∷ pick h.last 1 0
-    ∷ 1
-    ∷ get_or r 7 0
-    ∷ get_or r 8 0
-    ∷ (get_or r 9 0 + h.len)
-    ∷ []
+abbrev pub grow : ChainRow → FragmentNumbers → ChainRow
+grow r h = record r { closed = h.last; copied = true; len = r.len + h.len }
 
 last_snoc : (fs : List Fragment) (g : Fragment) → any_last fs ≡ false → any_last (fs ++ (g ∷ [])) ≡ closes_chain g
 last_snoc [] g e = flag (closes_chain g)
@@ -188,22 +163,23 @@ row-grown : (g : Fragment) (c : Chain) → object_id c ≡ id_of g → ended c �
 row-grown g c e q =
     let w : with_id (object_id c) (g ∷ []) ≡ g ∷ [] = pick_first (g ∷ []) [] (eq-eqb (id_of g) (object_id c) (sym e)) in
     λ j.
-    object_id c
-    ∷ version_of c
-    ∷ width_of c
-    ∷ height_of c
-    ∷ declared_length c
-    ∷ (ap (λ (l : List Fragment). pick (any_last (c.first ∷ c.further ++ l)) 1 0) w ∙ ap (λ (b : Bool). pick b 1 0) (last_snoc (c.first ∷ c.further) g q)) j
-    ∷ (ap (λ (l : List Fragment). pick (any_more (c.further ++ l)) 1 0) w ∙ ap (λ (b : Bool). pick b 1 0) (more-snoc c.further g)) j
-    ∷ c.first.place
-    ∷ data_place c.first
-    ∷ (ap (λ (l : List Fragment). length (joined (c.first ∷ c.further ++ l))) w ∙ joined_snoc (c.first ∷ c.further) g) j
-    ∷ []
+    record {
+      id = object_id c;
+      version = version_of c;
+      width = width_of c;
+      height = height_of c;
+      declared = declared_length c;
+      closed = (ap (λ (l : List Fragment). any_last (c.first ∷ c.further ++ l)) w ∙ last_snoc (c.first ∷ c.further) g q) j;
+      copied = (ap (λ (l : List Fragment). any_more (c.further ++ l)) w ∙ more-snoc c.further g) j;
+      place = c.first.place;
+      start = data_place c.first;
+      len = (ap (λ (l : List Fragment). length (joined (c.first ∷ c.further ++ l))) w ∙ joined_snoc (c.first ∷ c.further) g) j;
+    }
 
 -- a continuation changes the row of its id
 pub rows_grown : (g : Fragment) (cs : List Chain) → Distinct cs → state_of (id_of g) cs ≡ continuing
     → map chain_row (map (extend g) cs)
-    ≡ set (map chain_row cs) (row_with (id_of g) (map chain_row cs)) (grow (get_or (map chain_row cs) (row_with (id_of g) (map chain_row cs)) []) (fragment_numbers g))
+    ≡ set (map chain_row cs) (row_with (id_of g) (map chain_row cs)) (grow (get_or (map chain_row cs) (row_with (id_of g) (map chain_row cs)) no_row) (fragment_numbers g))
 rows_grown g [] d e = cc
 rows_grown g (c ∷ cs) d e = go (eqb (object_id c) (id_of g)) refl e (rows_grown g cs d.1)
   where
@@ -216,10 +192,10 @@ rows_grown g (c ∷ cs) d e = go (eqb (object_id c) (id_of g)) refl e (rows_grow
         → (state_of (id_of g) cs ≡ continuing
         → map chain_row (map (extend g) cs)
         ≡ set (map chain_row cs) (row_with (id_of g) (map chain_row cs))
-        (grow (get_or (map chain_row cs) (row_with (id_of g) (map chain_row cs)) []) (fragment_numbers g)))
+        (grow (get_or (map chain_row cs) (row_with (id_of g) (map chain_row cs)) no_row) (fragment_numbers g)))
         → chain_row (extend g c) ∷ map chain_row (map (extend g) cs)
         ≡ set (chain_row c ∷ map chain_row cs) (pick b 0 (suc (row_with (id_of g) (map chain_row cs))))
-        (grow (get_or (chain_row c ∷ map chain_row cs) (pick b 0 (suc (row_with (id_of g) (map chain_row cs)))) [])
+        (grow (get_or (chain_row c ∷ map chain_row cs) (pick b 0 (suc (row_with (id_of g) (map chain_row cs)))) no_row)
         (fragment_numbers g))
     go true r q ih =
         let same : object_id c ≡ id_of g = eqb-true (object_id c) (id_of g) r in
@@ -230,16 +206,16 @@ rows_grown g (c ∷ cs) d e = go (eqb (object_id c) (id_of g)) refl e (rows_grow
 
 -- totals
 
-pub total-append : (rs : List (List ℕ)) (r : List ℕ) → total (rs ++ (r ∷ [])) ≡ total rs + get_or r 9 0
+pub total-append : (rs : List ChainRow) (r : ChainRow) → total (rs ++ (r ∷ [])) ≡ total rs + r.len
 total-append [] r = omega arith
 total-append (q ∷ rs) r = omega (arith, total-append rs r)
 
-pub total-at : (rs : List (List ℕ)) (i : ℕ) → i < length rs → get_or (get_or rs i []) 9 0 ≤ total rs
+pub total-at : (rs : List ChainRow) (i : ℕ) → i < length rs → (get_or rs i no_row).len ≤ total rs
 total-at [] i h = absurd (omega arith)
 total-at (r ∷ rs) zero h = omega arith
 total-at (r ∷ rs) (suc i) h = omega (arith, total-at rs i (omega arith))
 
-pub total-set : (rs : List (List ℕ)) (i x : ℕ) (r : List ℕ) → i < length rs → get_or r 9 0 ≡ get_or (get_or rs i []) 9 0 + x → total (set rs i r) ≡ total rs + x
+pub total-set : (rs : List ChainRow) (i x : ℕ) (r : ChainRow) → i < length rs → r.len ≡ (get_or rs i no_row).len + x → total (set rs i r) ≡ total rs + x
 total-set [] i x r h e = absurd (omega arith)
 total-set (q ∷ rs) zero x r h e = omega arith
 total-set (q ∷ rs) (suc i) x r h e = omega (arith, total-set rs i x r (omega arith) e)

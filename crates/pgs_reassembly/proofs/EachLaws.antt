@@ -17,19 +17,20 @@ use Rattle.pgs_reassembly.specs.Objects.{Chain, fragments_verdict, object_limit,
 use Rattle.pgs_set.specs.Sets.{no_set, DisplaySet, sets_of, set_count, sets_verdict}
 use Rattle.pgs_reassembly.specs.Tables.{Gathered, fragments_left}
 use Rattle.pgs_set.specs.Walks.{InSet, Ends}
+use Rattle.pgs_reassembly.specs.declared.ChainRow.{ChainRow}
 
 -- i of n sets are accepted, and the next one, if there is one, begins at `at`
-pub record Testing (s : List ℕ) (n : ℕ) (start table : List (List ℕ)) (i at : ℕ) : Type 0 where
+pub record Testing (s : List ℕ) (n : ℕ) (start table : List ChainRow) (i at : ℕ) : Type 0 where
   pub finding : Finding s i at
   pub few : i ≤ n
   pub same : length table ≡ length start
   pub verdict : each_verdict (length start) (drop i (sets_of s)) ≡ each_verdict (length start) (sets_of s)
 
 module _ (s : List ℕ) (n : ℕ) (all : n ≡ set_count s) where
-  pub testing : (start : List (List ℕ)) → sets_verdict s ≡ accepted → Testing s n start start 0 0
+  pub testing : (start : List ChainRow) → sets_verdict s ≡ accepted → Testing s n start start 0 0
   testing start e = record { finding = finding s e; few = omega arith; same = refl; verdict = refl }
 
-  module _ {start table : List (List ℕ)} {i at : ℕ} (c : Testing s n start table i at) where
+  module _ {start table : List ChainRow} {i at : ℕ} (c : Testing s n start table i at) where
     pub tests-all : n ≤ i → gives n ≡ outcome_of (each_verdict (length start) (sets_of s)) n
     tests-all h = gives_as (sym c.verdict ∙ none (drop i (sets_of s)) (omega (arith, length-drop i (sets_of s)))) refl
       where
@@ -59,7 +60,7 @@ module _ (s : List ℕ) (n : ℕ) (all : n ≡ set_count s) where
             ∙ (λ j. and_then (fragments_verdict (sym c.same j) (set-fragments s i (found-set s c.finding more) e j))
             (each_verdict (length start) (drop (sym (add-one i) j) (sets_of s))))
 
-        module _ {cs : List Chain} {table' : List (List ℕ)} {answer : Outcome (ℕ × ℕ)}
+        module _ {cs : List Chain} {table' : List ChainRow} {answer : Outcome (ℕ × ℕ)}
             (g : Gathered s (fragments_verdict (length table) (fragments_left s (at + (13 + h.segment_size)))) cs table' answer) where
           pub tests-refusal : {k : ℕ} → answer ≡ refuses k → refuses k ≡ outcome_of (each_verdict (length start) (sets_of s)) n
           tests-refusal {k} q =

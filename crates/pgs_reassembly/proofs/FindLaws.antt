@@ -19,10 +19,11 @@ use Rattle.pgs_reassembly.specs.Objects.{Fragment, is_ods, fragment_at, chains_o
 use Rattle.pgs_set.specs.Sets.{is_end}
 use Rattle.pgs_reassembly.specs.Tables.{fragment_numbers, total, Holds, Grown, Took, FoundChains, fragments_left}
 use Rattle.pgs_set.specs.Walks.{InSet}
+use Rattle.pgs_reassembly.specs.declared.ChainRow.{ChainRow}
 use Rattle.pgs_reassembly.specs.declared.FragmentNumbers.{FragmentNumbers}
 
 -- the fragments before `at` are taken: their chains are the first n rows
-pub record Finding (s : List ℕ) (from room : ℕ) (table : List (List ℕ)) (at n : ℕ) : Type 0 where
+pub record Finding (s : List ℕ) (from room : ℕ) (table : List ChainRow) (at n : ℕ) : Type 0 where
   pub in_set : InSet s at
   pub same : length table ≡ room
   pub earlier : List Fragment
@@ -32,7 +33,7 @@ pub record Finding (s : List ℕ) (from room : ℕ) (table : List (List ℕ)) (a
   pub small : total (take n table) ≤ at
 
 module _ (s : List ℕ) (from : ℕ) where
-  pub finding : (table : List (List ℕ)) → InSet s from → Finding s from (length table) table from 0
+  pub finding : (table : List ChainRow) → InSet s from → Finding s from (length table) table from 0
   finding table i =
       record {
         in_set = i;
@@ -44,7 +45,7 @@ module _ (s : List ℕ) (from : ℕ) where
         small = omega arith;
       }
 
-  module _ {room : ℕ} {table : List (List ℕ)} {at n : ℕ} (c : Finding s from room table at n) where
+  module _ {room : ℕ} {table : List ChainRow} {at n : ℕ} (c : Finding s from room table at n) where
     pub finds-here : step_verdict (drop at s) ≡ accepted
     finds-here = inside-here s c.in_set
 
@@ -114,7 +115,7 @@ module _ (s : List ℕ) (from : ℕ) where
               ∙ ap (λ (w : Verdict). and_then w (verdict_after room (c.earlier ++ (fragment_at at (drop at s) ∷ [])) (fragments_left s (at + used_by (drop at s))))) v
 
           -- a fragment that is refused decides
-          pub found-refusal : {f : FragmentNumbers} {table' : List (List ℕ)} {k : ℕ} → f ≡ fragment_numbers (fragment_at at (drop at s)) → length table' ≡ length table
+          pub found-refusal : {f : FragmentNumbers} {table' : List ChainRow} {k : ℕ} → f ≡ fragment_numbers (fragment_at at (drop at s)) → length table' ≡ length table
               → Took table table' n f (refuses k) → FoundChains (fragments_left s from) (length s) table' (refuses k)
           found-refusal {f} {table'} {k} ef el w =
               record {
@@ -131,7 +132,7 @@ module _ (s : List ℕ) (from : ℕ) where
               }
 
           -- a fragment is taken
-          pub finds-more : {f : FragmentNumbers} {table' : List (List ℕ)} {n' : ℕ} → f ≡ fragment_numbers (fragment_at at (drop at s)) → length table' ≡ length table
+          pub finds-more : {f : FragmentNumbers} {table' : List ChainRow} {n' : ℕ} → f ≡ fragment_numbers (fragment_at at (drop at s)) → length table' ≡ length table
               → Took table table' n f (gives n') → Finding s from room table' (at + (13 + h.segment_size)) n'
           finds-more {f} {table'} {n'} ef el w =
               rw (size-read (drop at s) e)

@@ -6,7 +6,7 @@ use Prim.Native.Nat.{ℕ, ◌+◌, ◌-◌, ◌≤◌, ◌<◌}
 use native.Mathlib.Omega.{arith}
 use borrow.Author.Tests.{eq-eqb, ne_eqb}
 use lib.ListN.{length, take, drop, get_or, length-append, length-take, length-drop, drop_of_length-le}
-use lib.Seq.{length-take-le, take-length}
+use lib.Seq.{length-take-le}
 use Rattle.pgs_base.proofs.Outcomes.{not-refused}
 use Rattle.pgs_base.specs.Outcome.{accepted, laid}
 use Rattle.pgs_base.proofs.Front.{Front, begins, parted, filled}
@@ -19,11 +19,13 @@ use Rattle.pgs_segment.specs.declared.header.SegmentHeader.{SegmentHeader}
 use Rattle.pgs_views.specs.declared.segment_type.SegmentType.{SegmentType}
 use Rattle.pgs_set.proofs.Choices.{pick_first, pick_second}
 use Rattle.pgs_reassembly.proofs.FragmentLaws.{none_left, left-same, left-next, data-within, data-part}
+use Rattle.pgs_reassembly.proofs.ChainLaws.{no_row}
 use Rattle.pgs_reassembly.proofs.Lists.{drop-next}
 use Rattle.pgs_set.proofs.SetLaws.{kind-read, size-read}
 use Rattle.pgs_reassembly.specs.Objects.{Fragment, is_ods, fragment_at, fragments_from, id_of, with_id, joined}
 use Rattle.pgs_set.specs.Sets.{is_end, through_end}
 use Rattle.pgs_reassembly.specs.Tables.{fragment_numbers, joined_in, row_data, joined_rows, Measured, fragments_left}
+use Rattle.pgs_reassembly.specs.declared.ChainRow.{ChainRow}
 use Rattle.pgs_reassembly.specs.declared.FragmentNumbers.{FragmentNumbers}
 
 -- a part of a front comes back with what was written, whatever its end is called
@@ -147,57 +149,55 @@ module _ (s : List ℕ) (from id : ℕ) where
                   copied = ey ∙ its-bytes
 
 -- the rows before i are joined, in `at` bytes
-pub record Placing (s : List ℕ) (rows : List (List ℕ)) (start now : List ℕ) (i at : ℕ) : Type 0 where
+pub record Placing (s : List ℕ) (rows : List ChainRow) (start now : List ℕ) (i at : ℕ) : Type 0 where
   pub within : i ≤ length rows
   pub joins : at + joined_in (drop i rows) ≡ joined_in rows
   pub measured : Measured s (drop i rows)
   pub front : Front start (joined_rows s rows) now (joined_rows s (drop i rows)) at
 
-module _ (s : List ℕ) (rows : List (List ℕ)) where
+module _ (s : List ℕ) (rows : List ChainRow) where
   pub placing : (start : List ℕ) → Measured s rows → Placing s rows start start 0 0
   placing start m = record { within = omega arith; joins = omega arith; measured = m; front = begins start (joined_rows s rows) }
 
   module _ {start now : List ℕ} {i at : ℕ} (c : Placing s rows start now i at) where
     module _ (m : i < length rows) where
-      its : Measured s (get_or rows i [] ∷ drop (i + 1) rows)
-      its = rw (drop-next rows i [] m) at c.measured
+      its : Measured s (get_or rows i no_row ∷ drop (i + 1) rows)
+      its = rw (drop-next rows i no_row m) at c.measured
 
       -- a chain of one fragment stays in the stream
-      pub places-none : get_or (get_or rows i []) 6 0 ≡ 0 → Placing s rows start now (i + 1) at
+      pub places-none : (get_or rows i no_row).copied ≡ false → Placing s rows start now (i + 1) at
       places-none e =
-          let test = eq-eqb (get_or (get_or rows i []) 6 0) 0 e in
           record {
             within = omega arith;
-            joins = omega (arith, c.joins, ap joined_in (drop-next rows i [] m), pick_first 0 (get_or (get_or rows i []) 9 0) test);
+            joins = omega (arith, c.joins, ap joined_in (drop-next rows i no_row m), pick_second (get_or rows i no_row).len 0 e);
             measured = its.1;
-            front = rw (ap (joined_rows s) (drop-next rows i [] m) ∙ ap (λ (l : List ℕ). l ++ joined_rows s (drop (i + 1) rows)) (pick_first [] (row_data s (get_or rows i [])) test)) at c.front;
+            front = rw (ap (joined_rows s) (drop-next rows i no_row m) ∙ ap (λ (l : List ℕ). l ++ joined_rows s (drop (i + 1) rows)) (pick_second (row_data s (get_or rows i no_row)) [] e)) at c.front;
           }
 
       -- a chain of several is joined
-      module _ (e : get_or (get_or rows i []) 6 0 ≡ 0 → ⊥) where
-        pub places-within : joined_in rows ≤ length start → at + get_or (get_or rows i []) 9 0 ≤ length now
+      module _ (e : (get_or rows i no_row).copied ≡ true) where
+        pub places-within : joined_in rows ≤ length start → at + (get_or rows i no_row).len ≤ length now
         places-within room =
-            omega (arith, c.joins, ap joined_in (drop-next rows i [] m), pick_second 0 (get_or (get_or rows i []) 9 0) (ne_eqb (get_or (get_or rows i []) 6 0) 0 e), c.front.same)
+            omega (arith, c.joins, ap joined_in (drop-next rows i no_row m), pick_first (get_or rows i no_row).len 0 e, c.front.same)
 
         -- its part is exactly as long as its data
         pub places-part : joined_in rows ≤ length start
-            → length (take (at + get_or (get_or rows i []) 9 0 - at) (drop at now)) ≡ length (row_data s (get_or rows i []))
+            → length (take (at + (get_or rows i no_row).len - at) (drop at now)) ≡ length (row_data s (get_or rows i no_row))
         places-part room =
-            omega (arith, places-within room, length-take (at + get_or (get_or rows i []) 9 0 - at) (drop at now), length-drop at now, its.0)
+            omega (arith, places-within room, length-take (at + (get_or rows i no_row).len - at) (drop at now), length-drop at now, its.0)
 
-        pub places-on : joined_in rows ≤ length start → {ys : List ℕ} → ys ≡ row_data s (get_or rows i [])
-            → Placing s rows start (take at now ++ (ys ++ drop (at + get_or (get_or rows i []) 9 0 - at) (drop at now))) (i + 1) (at + get_or (get_or rows i []) 9 0)
+        pub places-on : joined_in rows ≤ length start → {ys : List ℕ} → ys ≡ row_data s (get_or rows i no_row)
+            → Placing s rows start (take at now ++ (ys ++ drop (at + (get_or rows i no_row).len - at) (drop at now))) (i + 1) (at + (get_or rows i no_row).len)
         places-on room {ys} ey =
-            let test = ne_eqb (get_or (get_or rows i []) 6 0) 0 e in
-            let n : at + get_or (get_or rows i []) 9 0 - at ≡ get_or (get_or rows i []) 9 0 = omega arith in
+            let n : at + (get_or rows i no_row).len - at ≡ (get_or rows i no_row).len = omega arith in
             rw (ey, n)
             (record {
               within = omega arith;
-              joins = omega (arith, c.joins, ap joined_in (drop-next rows i [] m), pick_second 0 (get_or (get_or rows i []) 9 0) test);
+              joins = omega (arith, c.joins, ap joined_in (drop-next rows i no_row m), pick_first (get_or rows i no_row).len 0 e);
               measured = its.1;
               front =
-                  part-back (row_data s (get_or rows i []))
-                  (rw (ap (joined_rows s) (drop-next rows i [] m) ∙ ap (λ (l : List ℕ). l ++ joined_rows s (drop (i + 1) rows)) (pick_second [] (row_data s (get_or rows i [])) test)) at c.front)
+                  part-back (row_data s (get_or rows i no_row))
+                  (rw (ap (joined_rows s) (drop-next rows i no_row m) ∙ ap (λ (l : List ℕ). l ++ joined_rows s (drop (i + 1) rows)) (pick_first (row_data s (get_or rows i no_row)) [] e)) at c.front)
                   (sym its.0) (places-within room);
             })
 

@@ -5,7 +5,7 @@ use mathlib.Core.List.{List, [], ◌∷◌, ◌++◌, map}
 use Prim.Native.Nat.{ℕ, ◌+◌, ◌≤◌, ◌<◌}
 use native.Mathlib.Omega.{arith}
 use borrow.Author.Tests.{eq-eqb, le-leb, lt-leb}
-use lib.Dec.{ltb, eqb}
+use lib.Dec.{ltb}
 use lib.ListN.{length, take, drop, length-map}
 use lib.Seq.{length-take-le}
 use Rattle.pgs_base.specs.Outcome.{Verdict, accepted, refused, gives, refuses, outcome_of, and_then, unless, laid, Delivered, pick}
@@ -28,6 +28,7 @@ use Rattle.pgs_reassembly.specs.Reassembly.{copied, joined_data, object_rows, Re
 use Rattle.pgs_set.specs.Sets.{set_number, set_verdict, is_end, through_end, set_count, sets_verdict}
 use Rattle.pgs_reassembly.specs.Tables.{chain_row, total, FoundChains, Rows, Gathered, rows_verdict, joined_in, records_from, row_data, joined_rows, Measured, fragments_left}
 use Rattle.pgs_set.specs.Walks.{pieces_at, SetStands}
+use Rattle.pgs_reassembly.specs.declared.ChainRow.{ChainRow}
 
 -- a chain's first fragment is the ODS at its place, and the fragments of its id from there on have its data
 pub record Begins (s : List ℕ) (c : Chain) : Type 0 where
@@ -106,11 +107,7 @@ rows-measured s (c ∷ cs) a = (ap length a.0.together, rows-measured s cs a.1)
 
 pub rows-data : (s : List ℕ) (cs : List Chain) → AllBegin s cs → joined_rows s (map chain_row cs) ≡ joined_data cs
 rows-data s [] a = refl
-rows-data s (c ∷ cs) a = (λ j. pick (eqb (pick (copied c) 1 0) 0) [] (a.0.together j) ++ rows-data s cs a.1 j) ∙ ap (λ (l : List ℕ). l ++ joined_data cs) (go (copied c))
-  where
-    go : (b : Bool) → pick (eqb (pick b 1 0) 0) [] (data_of c) ≡ pick b (data_of c) []
-    go true = refl
-    go false = refl
+rows-data s (c ∷ cs) a = λ j. pick (copied c) (a.0.together j) [] ++ rows-data s cs a.1 j
 
 -- how a call ends, over the chains
 module _ {v : Verdict} {cs : List Chain} {list : List (List ℕ)} {scratch : List ℕ} where
@@ -142,14 +139,14 @@ module _ {v : Verdict} {cs : List Chain} {list : List (List ℕ)} {scratch : Lis
 
 -- how finding the objects ends
 
-gathered_none : {s : List ℕ} {v : Verdict} {cs : List Chain} {table : List (List ℕ)} {k : ℕ} → v ≡ refused k → Gathered s v cs table (refuses k)
+gathered_none : {s : List ℕ} {v : Verdict} {cs : List Chain} {table : List ChainRow} {k : ℕ} → v ≡ refused k → Gathered s v cs table (refuses k)
 gathered_none {k = k} e =
     record {
       turned = λ j q. let r : k ≡ j = cc in e ∙ ap refused r;
       found = λ n need q. absurd (let z : ◌≡◌ {A = ℕ} 0 1 = cc in omega arith);
     }
 
-gathered-all : {s : List ℕ} {v : Verdict} {cs : List Chain} {table : List (List ℕ)} {n need : ℕ} → Rows s v cs table n need → Gathered s v cs table (gives (n, need))
+gathered-all : {s : List ℕ} {v : Verdict} {cs : List Chain} {table : List ChainRow} {n need : ℕ} → Rows s v cs table n need → Gathered s v cs table (gives (n, need))
 gathered-all {n = n} {need = need} r =
     record {
       turned = λ j q. absurd (let z : ◌≡◌ {A = ℕ} 0 1 = cc in omega arith);
@@ -161,7 +158,7 @@ gathered-all {n = n} {need = need} r =
     }
 
 -- over the table that finding the chains left
-module _ (s : List ℕ) (from : ℕ) (table table' : List (List ℕ)) (same : length table' ≡ length table) where
+module _ (s : List ℕ) (from : ℕ) (table table' : List ChainRow) (same : length table' ≡ length table) where
   pub found_none : {k : ℕ} → FoundChains (fragments_left s from) (length s) table' (refuses k)
       → Gathered s (fragments_verdict (length table) (fragments_left s from)) (chains_of (fragments_left s from)) table' (refuses k)
   found_none {k = k} f =
@@ -208,7 +205,7 @@ module _ (s : List ℕ) (from : ℕ) (table table' : List (List ℕ)) (same : le
         })
 
 -- how the calls over what was found end
-module _ (s : List ℕ) (v : Verdict) (cs : List Chain) (table : List (List ℕ)) (n need : ℕ) (r : Rows s v cs table n need) where
+module _ (s : List ℕ) (v : Verdict) (cs : List Chain) (table : List ChainRow) (n need : ℕ) (r : Rows s v cs table n need) where
   pub rows-length : n ≡ length (take n table)
   rows-length = sym (length-take-le n table r.within)
 
@@ -273,7 +270,7 @@ module _ (s : List ℕ) (k : ℕ) {r : ℕ} (st : SetStands s k r) {h : SegmentH
       set_first limit k s ∙ (λ j. and_then (a j) (fragments_verdict limit (set-fragments j)))
 
 -- there is no such set
-pub no-set : (limit k : ℕ) (s : List ℕ) {cs : List Chain} {table : List (List ℕ)} {n : ℕ} → set_verdict k s ≡ refused n
+pub no-set : (limit k : ℕ) (s : List ℕ) {cs : List Chain} {table : List ChainRow} {n : ℕ} → set_verdict k s ≡ refused n
     → Gathered s (objects_verdict_within limit k s) cs table (refuses n)
 no-set limit k s e =
     gathered_none

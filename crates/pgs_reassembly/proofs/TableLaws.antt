@@ -5,12 +5,11 @@ use mathlib.Core.List.{List, [], ◌∷◌, ◌++◌, map, append-nil}
 use Prim.Native.Nat.{ℕ, ◌+◌, ◌≤◌, ◌<◌}
 use native.Mathlib.Omega.{arith}
 use native.Mathlib.Numerals.{add-one}
-use borrow.Author.Tests.{eq-eqb, ne_eqb, lt-ltb, le-ltb}
-use lib.Dec.{eqb}
+use borrow.Author.Tests.{lt-ltb, le-ltb}
 use lib.ListN.{length, take, set, get_or, length-set, length-map}
 use lib.Seq.{take-suc-set, take-set-lt, length-take-le, get_or-take}
 use Rattle.pgs_base.specs.Outcome.{refused, gives, refuses, pick, unless}
-use Rattle.pgs_reassembly.proofs.ChainLaws.{chain-of, extend, chains-extended, chains-added, extend-none}
+use Rattle.pgs_reassembly.proofs.ChainLaws.{no_row, chain-of, extend, chains-extended, chains-added, extend-none}
 use Rattle.pgs_reassembly.proofs.ChainLaws.{distinct-extended, distinct-added, state-found, state-unseen, grow}
 use Rattle.pgs_reassembly.proofs.ChainLaws.{rows_grown, total-append, total-at, total-set}
 use Rattle.pgs_set.proofs.Choices.{pick_first, pick_second}
@@ -18,48 +17,51 @@ use Rattle.pgs_reassembly.specs.Objects.{Fragment, Chain, ChainState, unseen, co
 use Rattle.pgs_reassembly.specs.Objects.{data_place, chains_of, state_of, fragment_verdict, first_verdict, next_verdict}
 use Rattle.pgs_reassembly.specs.Objects.{width_in, height_in}
 use Rattle.pgs_reassembly.specs.Tables.{fragment_numbers, chain_row, row_with, total, Holds, Grown, Took}
+use Rattle.pgs_reassembly.specs.declared.ChainRow.{ChainRow}
 use Rattle.pgs_reassembly.specs.declared.FragmentNumbers.{FragmentNumbers}
 
 -- the row of a new chain
-abbrev pub new_row : FragmentNumbers → List ℕ
+abbrev pub new_row : FragmentNumbers → ChainRow
 new_row h =
-    h.id
-    ∷ h.version
-    ∷ h.width
-    ∷ h.height
-    ∷ h.declared
-    ∷ pick h.last 1 0
-    ∷ 0
-    ∷ h.place
-    ∷ h.start
-    ∷ h.len
-    ∷ []
+    record {
+      id = h.id;
+      version = h.version;
+      width = h.width;
+      height = h.height;
+      declared = h.declared;
+      closed = h.last;
+      copied = false;
+      place = h.place;
+      start = h.start;
+      len = h.len;
+    }
 
 row_new : (g : Fragment) → chain_row (chain-of g) ≡ new_row (fragment_numbers g)
 row_new g =
     λ j.
-    id_of g
-    ∷ g.ods.object_version_number
-    ∷ width_in g.ods.dimensions
-    ∷ height_in g.ods.dimensions
-    ∷ g.ods.object_data_length
-    ∷ flag (closes_chain g) j
-    ∷ 0
-    ∷ g.place
-    ∷ data_place g
-    ∷ length (append-nil g.bytes j)
-    ∷ []
+    record {
+      id = id_of g;
+      version = g.ods.object_version_number;
+      width = width_in g.ods.dimensions;
+      height = height_in g.ods.dimensions;
+      declared = g.ods.object_data_length;
+      closed = itself (closes_chain g) j;
+      copied = false;
+      place = g.place;
+      start = data_place g;
+      len = length (append-nil g.bytes j);
+    }
   where
-    flag : (b : Bool) → ◌≡◌ {A = ℕ} (pick (pick b true false) 1 0) (pick b 1 0)
-    flag true = refl
-    flag false = refl
+    itself : (b : Bool) → pick b true false ≡ b
+    itself true = refl
+    itself false = refl
 
 map_snoc : (cs : List Chain) (c : Chain) → map chain_row (cs ++ (c ∷ [])) ≡ map chain_row cs ++ (chain_row c ∷ [])
 map_snoc [] c = refl
-map_snoc (b ∷ cs) c = ap (λ (l : List (List ℕ)). chain_row b ∷ l) (map_snoc cs c)
+map_snoc (b ∷ cs) c = ap (λ (l : List ChainRow). chain_row b ∷ l) (map_snoc cs c)
 
-module _ (table : List (List ℕ)) (n : ℕ) (h : FragmentNumbers) where
-  took-refusal : (table' : List (List ℕ)) (k : ℕ)
+module _ (table : List ChainRow) (n : ℕ) (h : FragmentNumbers) where
+  took-refusal : (table' : List ChainRow) (k : ℕ)
       → ((fs : List Fragment) (f : Fragment) → Holds fs table n → h ≡ fragment_numbers f → fragment_verdict (length table) (chains_of fs) f ≡ refused k)
       → Took table table' n h (refuses k)
   took-refusal table' k p =
@@ -68,7 +70,7 @@ module _ (table : List (List ℕ)) (n : ℕ) (h : FragmentNumbers) where
         grew = λ fs f s e m q. absurd (let z : ◌≡◌ {A = ℕ} 0 1 = cc in omega arith);
       }
 
-  took_more : (table' : List (List ℕ)) (n' : ℕ) → ((fs : List Fragment) (f : Fragment) → Holds fs table n → h ≡ fragment_numbers f → Grown fs f table table' n n')
+  took_more : (table' : List ChainRow) (n' : ℕ) → ((fs : List Fragment) (f : Fragment) → Holds fs table n → h ≡ fragment_numbers f → Grown fs f table table' n n')
       → Took table table' n h (gives n')
   took_more table' n' p =
       record {
@@ -84,11 +86,11 @@ module _ (table : List (List ℕ)) (n : ℕ) (h : FragmentNumbers) where
       index : i ≡ row_with (id_of f) (map chain_row (chains_of fs))
       index = at ∙ (λ j. row_with (e j).id (hs.rows j))
 
-      found : i < n → state_of (id_of f) (chains_of fs) ≡ pick (eqb (get_or (get_or table i []) 5 0) 0) continuing complete
+      found : i < n → state_of (id_of f) (chains_of fs) ≡ pick (get_or table i no_row).closed complete continuing
       found m =
           state-found (id_of f) (chains_of fs) (omega (arith, index, counted))
-          ∙ (λ j. pick (eqb (get_or (get_or (sym hs.rows j) (sym index j) []) 5 0) 0) continuing complete)
-          ∙ ap (λ (r : List ℕ). pick (eqb (get_or r 5 0) 0) continuing complete) (get_or-take n table i [] m)
+          ∙ (λ j. pick (get_or (sym hs.rows j) (sym index j) no_row).closed complete continuing)
+          ∙ ap (λ (r : ChainRow). pick r.closed complete continuing) (get_or-take n table i no_row m)
 
       lost : n ≤ i → state_of (id_of f) (chains_of fs) ≡ unseen
       lost m = state-unseen (id_of f) (chains_of fs) (omega (arith, index, counted))
@@ -104,22 +106,21 @@ module _ (table : List (List ℕ)) (n : ℕ) (h : FragmentNumbers) where
 
     -- a first fragment
     module _ (q : h.first ≡ true) where
-      pub opened-open : (table' : List (List ℕ)) → i < n → get_or (get_or table i []) 5 0 ≡ 0 → Took table table' n h (refuses 16)
+      pub opened-open : (table' : List ChainRow) → i < n → (get_or table i no_row).closed ≡ false → Took table table' n h (refuses 16)
       opened-open table' m r =
-          took-refusal table' 16 (λ fs f hs e. as_first fs f hs e q (found fs f hs e m ∙ pick_first _ _ (eq-eqb (get_or (get_or table i []) 5 0) 0 r)))
+          took-refusal table' 16 (λ fs f hs e. as_first fs f hs e q (found fs f hs e m ∙ pick_second _ _ r))
 
-      pub opened-closed : (table' : List (List ℕ)) → i < n → (get_or (get_or table i []) 5 0 ≡ 0 → ⊥) → Took table table' n h (refuses 17)
+      pub opened-closed : (table' : List ChainRow) → i < n → (get_or table i no_row).closed ≡ true → Took table table' n h (refuses 17)
       opened-closed table' m r =
-          took-refusal table' 17 (λ fs f hs e. as_first fs f hs e q (found fs f hs e m ∙ pick_second _ _ (ne_eqb (get_or (get_or table i []) 5 0) 0 r)))
+          took-refusal table' 17 (λ fs f hs e. as_first fs f hs e q (found fs f hs e m ∙ pick_first _ _ r))
 
-      pub opened-full : (table' : List (List ℕ)) → n ≤ i → length table ≤ n → Took table table' n h (refuses 23)
+      pub opened-full : (table' : List ChainRow) → n ≤ i → length table ≤ n → Took table table' n h (refuses 23)
       opened-full table' m r =
           took-refusal table' 23
           (λ fs f hs e. as_first fs f hs e q (lost fs f hs e m) ∙ ap (unless 23) (le-ltb (length (chains_of fs)) (length table) (omega (arith, counted fs f hs e))))
 
-      pub opened-new : n ≤ i → n < length table → {a : ℕ} → a ≡ pick h.last 1 0
-          → Took table (set table n (h.id ∷ h.version ∷ h.width ∷ h.height ∷ h.declared ∷ a ∷ 0 ∷ h.place ∷ h.start ∷ h.len ∷ [])) n h (gives (n + 1))
-      opened-new m r {a} ea = rw ea (took_more (set table n (new_row h)) (n + 1) grown)
+      pub opened-new : n ≤ i → n < length table → Took table (set table n (new_row h)) n h (gives (n + 1))
+      opened-new m r = took_more (set table n (new_row h)) (n + 1) grown
         where
           grown : (fs : List Fragment) (f : Fragment) → Holds fs table n → h ≡ fragment_numbers f → Grown fs f table (set table n (new_row h)) n (n + 1)
           grown fs f hs e =
@@ -147,23 +148,21 @@ module _ (table : List (List ℕ)) (n : ℕ) (h : FragmentNumbers) where
 
     -- a continuation
     module _ (q : h.first ≡ false) where
-      pub continued-none : (table' : List (List ℕ)) → n ≤ i → Took table table' n h (refuses 18)
+      pub continued-none : (table' : List ChainRow) → n ≤ i → Took table table' n h (refuses 18)
       continued-none table' m = took-refusal table' 18 (λ fs f hs e. as-next fs f hs e q (lost fs f hs e m))
 
-      pub continued-closed : (table' : List (List ℕ)) → i < n → (get_or (get_or table i []) 5 0 ≡ 0 → ⊥) → Took table table' n h (refuses 19)
+      pub continued-closed : (table' : List ChainRow) → i < n → (get_or table i no_row).closed ≡ true → Took table table' n h (refuses 19)
       continued-closed table' m r =
-          took-refusal table' 19 (λ fs f hs e. as-next fs f hs e q (found fs f hs e m ∙ pick_second _ _ (ne_eqb (get_or (get_or table i []) 5 0) 0 r)))
+          took-refusal table' 19 (λ fs f hs e. as-next fs f hs e q (found fs f hs e m ∙ pick_first _ _ r))
 
       -- the length of the chain fits
-      pub continued-fits : n ≤ length table → i < n → get_or (get_or table i []) 9 0 ≤ total (take n table)
-      continued-fits k m = rw (get_or-take n table i [] m) at (total-at (take n table) i (rw (length-take-le n table k) m))
+      pub continued-fits : n ≤ length table → i < n → (get_or table i no_row).len ≤ total (take n table)
+      continued-fits k m = rw (get_or-take n table i no_row m) at (total-at (take n table) i (rw (length-take-le n table k) m))
 
-      pub continued-on : n ≤ length table → i < n → get_or (get_or table i []) 5 0 ≡ 0 → {a : ℕ} → a ≡ pick h.last 1 0 → {r : List ℕ} → r ≡ get_or table i []
-          → Took table (set table i (get_or r 0 0 ∷ get_or r 1 0 ∷ get_or r 2 0 ∷ get_or r 3 0 ∷ get_or r 4 0 ∷ a ∷ 1
-          ∷ get_or r 7 0 ∷ get_or r 8 0 ∷ (get_or r 9 0 + h.len) ∷ [])) n h (gives n)
-      continued-on k m z {a} ea {r} er = rw (ea, er) (took_more (set table i (grow (get_or table i []) h)) n grown)
+      pub continued-on : n ≤ length table → i < n → (get_or table i no_row).closed ≡ false → Took table (set table i (grow (get_or table i no_row) h)) n h (gives n)
+      continued-on k m z = took_more (set table i (grow (get_or table i no_row) h)) n grown
         where
-          grown : (fs : List Fragment) (f : Fragment) → Holds fs table n → h ≡ fragment_numbers f → Grown fs f table (set table i (grow (get_or table i []) h)) n n
+          grown : (fs : List Fragment) (f : Fragment) → Holds fs table n → h ≡ fragment_numbers f → Grown fs f table (set table i (grow (get_or table i no_row) h)) n n
           grown fs f hs e =
               record {
                 accepts = as-next fs f hs e q open-here;
@@ -178,20 +177,20 @@ module _ (table : List (List ℕ)) (n : ℕ) (h : FragmentNumbers) where
                 more = omega (
                   arith,
                   ap total taken,
-                  total-set (take n table) i h.len (grow (get_or table i []) h) (rw (length-take-le n table k) m)
-                      (ap (λ (x : List ℕ). get_or x 9 0 + h.len) (sym (get_or-take n table i [] m))),
+                  total-set (take n table) i h.len (grow (get_or table i no_row) h) (rw (length-take-le n table k) m)
+                      (ap (λ (x : ChainRow). x.len + h.len) (sym (get_or-take n table i no_row m))),
                   ap (λ (x : FragmentNumbers). x.len) e,
                 );
               }
             where
               open-here : state_of (id_of f) (chains_of fs) ≡ continuing
-              open-here = found fs f hs e m ∙ pick_first _ _ (eq-eqb (get_or (get_or table i []) 5 0) 0 z)
+              open-here = found fs f hs e m ∙ pick_second _ _ z
 
-              taken : take n (set table i (grow (get_or table i []) h)) ≡ set (take n table) i (grow (get_or table i []) h)
-              taken = take-set-lt n table i (grow (get_or table i []) h) m
+              taken : take n (set table i (grow (get_or table i no_row) h)) ≡ set (take n table) i (grow (get_or table i no_row) h)
+              taken = take-set-lt n table i (grow (get_or table i no_row) h) m
 
-              row : get_or table i [] ≡ get_or (map chain_row (chains_of fs)) (row_with (id_of f) (map chain_row (chains_of fs))) []
-              row = sym (get_or-take n table i [] m) ∙ (λ j. get_or (hs.rows j) (index fs f hs e j) [])
+              row : get_or table i no_row ≡ get_or (map chain_row (chains_of fs)) (row_with (id_of f) (map chain_row (chains_of fs))) no_row
+              row = sym (get_or-take n table i no_row m) ∙ (λ j. get_or (hs.rows j) (index fs f hs e j) no_row)
 
               all : chains_of (fs ++ (f ∷ [])) ≡ map (extend f) (chains_of fs)
               all = chains-extended fs f (sym (ap (λ (x : FragmentNumbers). x.first) e) ∙ q)

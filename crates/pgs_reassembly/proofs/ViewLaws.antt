@@ -36,16 +36,10 @@ module _ (at n : ℕ) (l : List ℕ) where
   pub part-whole : at ≤ length l → n ≤ length l - at → take (at + n - at) (drop at l) ≡ part_of at n l
   part-whole h q = let e : at + n - at ≡ n = omega arith in ap (λ (k : ℕ). take k (drop at l)) e ∙ sym (part-within h q)
 
--- how a record is shown
+-- a record of the scratch
 module _ (s x r : List ℕ) where
-  pub shows-stream : {l : List ℕ} → get_or r 4 0 ≡ 0 → l ≡ part_of (get_or r 5 0) (get_or r 6 0) s → l ≡ shown_by s x r
-  shows-stream e q = q ∙ sym (pick_first _ _ (eq-eqb (get_or r 4 0) 0 e))
-
   pub shows-scratch : {l : List ℕ} → (get_or r 4 0 ≡ 0 → ⊥) → get_or r 4 0 ≡ 1 → l ≡ part_of (get_or r 5 0) (get_or r 6 0) x → l ≡ shown_by s x r
   shows-scratch n e q = q ∙ sym (pick_second _ _ (ne_eqb (get_or r 4 0) 0 n) ∙ pick_first _ _ (eq-eqb (get_or r 4 0) 1 e))
-
-  pub shows-none : (get_or r 4 0 ≡ 0 → ⊥) → (get_or r 4 0 ≡ 1 → ⊥) → [] ≡ shown_by s x r
-  shows-none n e = sym (pick_second _ _ (ne_eqb (get_or r 4 0) 0 n) ∙ pick_second _ _ (ne_eqb (get_or r 4 0) 1 e))
 
 -- a part of three lists joined is the one in the middle
 part-middle : (a b c : List ℕ) → part_of (length a) (length b) (a ++ (b ++ c)) ≡ b

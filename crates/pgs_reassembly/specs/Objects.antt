@@ -1,7 +1,7 @@
 -- The objects of a display set. The mission: "An object is one run-length bitmap, perhaps sent in several fragments." 01, module 7:
 -- "Length and dimensions come from the first fragment; a continuation's declared length is ignored. Objects stand in first-seen
 -- order."
-use Rattle.std.specs.Prelude.{ℕ, ◌+◌, ◌-◌, Bool, true, false, List, [], ◌∷◌, ◌++◌, leb, ltb, eqb, length}
+use Rattle.std.specs.Prelude.{ℕ, ◌+◌, ◌-◌, Bool, true, false, List, [], ◌∷◌, ◌++◌, leb, ltb, eqb, length, Option, None, Some}
 use Rattle.pgs_base.specs.Outcome.{Verdict, accepted, refused, and_then, unless, pick}
 use Rattle.pgs_views.specs.Fragments.{fragment_of, is_first, is_last}
 use Rattle.pgs_ods.specs.OdsBody.{head_size, ods_of, ods_data}
@@ -9,7 +9,6 @@ use Rattle.pgs_segment.specs.OneSegment.{segment_type, body_at}
 use Rattle.pgs_views.specs.declared.segment_type.SegmentType.{SegmentType}
 use Rattle.pgs_views.specs.declared.segment_type.SegmentType.TheVariants.{Pds, Ods, Pcs, Wds, End, Other}
 use Rattle.pgs_ods.specs.declared.ods.Dimensions.{Dimensions}
-use Rattle.pgs_ods.specs.declared.ods.Dimensions.TheVariants.{Absent, Present}
 use Rattle.pgs_ods.specs.declared.ods.Ods as declared-ods
 use Rattle.pgs_set.specs.Sets.{DisplaySet, sets_of, set_number, set_count, sets_verdict}
 
@@ -95,13 +94,13 @@ data_of c = joined (c.first ∷ c.further)
 abbrev pub declared_length : Chain → ℕ
 declared_length c = c.first.ods.object_data_length
 
-abbrev pub width_in : Dimensions → ℕ
-width_in Absent = 0
-width_in (Present w h) = w
+abbrev pub width_in : Option Dimensions → ℕ
+width_in None = 0
+width_in (Some d) = d.width
 
-abbrev pub height_in : Dimensions → ℕ
-height_in Absent = 0
-height_in (Present w h) = h
+abbrev pub height_in : Option Dimensions → ℕ
+height_in None = 0
+height_in (Some d) = d.height
 
 abbrev pub width_of : Chain → ℕ
 width_of c = width_in c.first.ods.dimensions

@@ -1,6 +1,6 @@
--- The table of chains that finding objects keeps: a row of numbers for each chain, in first-seen order. Private contracts of
+-- The table of chains that finding objects keeps: a row for each chain, in first-seen order. Private contracts of
 -- `pgs_object` cite this; those of its public functions cite `Objects` and `Reassembly`.
-use Rattle.std.specs.Prelude.{ℕ, suc, ◌+◌, ◌-◌, ◌≤◌, ◌≡◌, List, [], ◌∷◌, ◌++◌, map, leb, eqb, length, take, get_or}
+use Rattle.std.specs.Prelude.{ℕ, suc, ◌+◌, ◌-◌, ◌≤◌, ◌≡◌, List, [], ◌∷◌, ◌++◌, map, leb, eqb, length, take}
 use Rattle.pgs_base.specs.Outcome.{Verdict, accepted, refused, Outcome, gives, refuses, and_then, unless, pick}
 use Rattle.pgs_reassembly.specs.Objects.{Fragment, fragments_from, Chain, unseen, id_of, opens_chain, closes_chain}
 use Rattle.pgs_reassembly.specs.Objects.{data_place, width_in, height_in, object_id, version_of, width_of, height_of}
@@ -9,6 +9,7 @@ use Rattle.pgs_reassembly.specs.Objects.{verdict_after, joined, with_id}
 use Rattle.pgs_reassembly.specs.Reassembly.{copied, joined_data}
 use Rattle.pgs_set.specs.Sets.{through_end}
 use Rattle.pgs_set.specs.Walks.{pieces_at}
+use Rattle.pgs_reassembly.specs.declared.ChainRow.{ChainRow}
 use Rattle.pgs_reassembly.specs.declared.FragmentNumbers.{FragmentNumbers}
 
 -- the fragments from a place on in the set that is open there
@@ -31,31 +32,31 @@ fragment_numbers f =
       len = length f.bytes;
     }
 
--- the row of a chain: id, version, width, height, declared length, whether it is closed, whether it is copied, the place of its first
--- segment, the place of that segment's data, and the joined length
-abbrev pub chain_row : Chain → List ℕ
+-- the row of a chain
+abbrev pub chain_row : Chain → ChainRow
 chain_row c =
-    object_id c
-    ∷ version_of c
-    ∷ width_of c
-    ∷ height_of c
-    ∷ declared_length c
-    ∷ pick (ended c) 1 0
-    ∷ pick (copied c) 1 0
-    ∷ c.first.place
-    ∷ data_place c.first
-    ∷ length (data_of c)
-    ∷ []
+    record {
+      id = object_id c;
+      version = version_of c;
+      width = width_of c;
+      height = height_of c;
+      declared = declared_length c;
+      closed = ended c;
+      copied = copied c;
+      place = c.first.place;
+      start = data_place c.first;
+      len = length (data_of c);
+    }
 
 -- the number of the first row with this id, or of rows where there is none
-abbrev pub row_with : ℕ → List (List ℕ) → ℕ
+abbrev pub row_with : ℕ → List ChainRow → ℕ
 row_with id [] = 0
-row_with id (r ∷ rs) = pick (eqb (get_or r 0 0) id) 0 (suc (row_with id rs))
+row_with id (r ∷ rs) = pick (eqb r.id id) 0 (suc (row_with id rs))
 
 -- the joined lengths of all rows
-abbrev pub total : List (List ℕ) → ℕ
+abbrev pub total : List ChainRow → ℕ
 total [] = 0
-total (r ∷ rs) = get_or r 9 0 + total rs
+total (r ∷ rs) = r.len + total rs
 
 -- no two chains have one id
 abbrev pub Distinct : List Chain → Type 0
@@ -63,80 +64,77 @@ Distinct [] = Unit {0}
 Distinct (c ∷ cs) = (state_of (object_id c) cs ≡ unseen) × Distinct cs
 
 -- the first n rows of a table are those of the chains of these fragments
-pub record Holds (fs : List Fragment) (table : List (List ℕ)) (n : ℕ) : Type 0 where
+pub record Holds (fs : List Fragment) (table : List ChainRow) (n : ℕ) : Type 0 where
   pub within : n ≤ length table
   pub rows : take n table ≡ map chain_row (chains_of fs)
   pub distinct : Distinct (chains_of fs)
 
 -- a table after one more fragment f
-pub record Grown (fs : List Fragment) (f : Fragment) (table table' : List (List ℕ)) (n n' : ℕ) : Type 0 where
+pub record Grown (fs : List Fragment) (f : Fragment) (table table' : List ChainRow) (n n' : ℕ) : Type 0 where
   pub accepts : fragment_verdict (length table) (chains_of fs) f ≡ accepted
   pub holds : Holds (fs ++ (f ∷ [])) table' n'
   pub more : total (take n' table') ≤ total (take n table) + length f.bytes
 
 -- taking one more fragment into a table, with this answer
-pub record Took (table table' : List (List ℕ)) (n : ℕ) (h : FragmentNumbers) (answer : Outcome ℕ) : Type 0 where
+pub record Took (table table' : List ChainRow) (n : ℕ) (h : FragmentNumbers) (answer : Outcome ℕ) : Type 0 where
   pub turned : (fs : List Fragment) (f : Fragment) → Holds fs table n → h ≡ fragment_numbers f → (k : ℕ) → answer ≡ refuses k
       → fragment_verdict (length table) (chains_of fs) f ≡ refused k
   pub grew : (fs : List Fragment) (f : Fragment) → Holds fs table n → h ≡ fragment_numbers f → (n' : ℕ) → answer ≡ gives n'
       → Grown fs f table table' n n'
 
 -- finding the chains of these fragments, with this answer
-pub record FoundChains (fs : List Fragment) (bound : ℕ) (table' : List (List ℕ)) (answer : Outcome ℕ) : Type 0 where
+pub record FoundChains (fs : List Fragment) (bound : ℕ) (table' : List ChainRow) (answer : Outcome ℕ) : Type 0 where
   pub turned : (k : ℕ) → answer ≡ refuses k → verdict_after (length table') [] fs ≡ refused k
   pub accepts : (n : ℕ) → answer ≡ gives n → verdict_after (length table') [] fs ≡ accepted
   pub holds : (n : ℕ) → answer ≡ gives n → Holds fs table' n
   pub small : (n : ℕ) → answer ≡ gives n → total (take n table') ≤ bound
 
 -- what the rows say of their objects: 20, 21, 22
-abbrev pub row_verdict : List ℕ → Verdict
-row_verdict r =
-    and_then (unless 20 (eqb (get_or r 5 0) 1))
-    (and_then (unless 21 (leb 4 (get_or r 4 0))) (unless 22 (eqb (get_or r 4 0 - 4) (get_or r 9 0))))
+abbrev pub row_verdict : ChainRow → Verdict
+row_verdict r = and_then (unless 20 r.closed) (and_then (unless 21 (leb 4 r.declared)) (unless 22 (eqb (r.declared - 4) r.len)))
 
-abbrev pub rows_verdict : List (List ℕ) → Verdict
+abbrev pub rows_verdict : List ChainRow → Verdict
 rows_verdict [] = accepted
 rows_verdict (r ∷ rs) = and_then (row_verdict r) (rows_verdict rs)
 
 -- how many bytes of the scratch a row's object takes, and all of them
-abbrev pub copied_in : List ℕ → ℕ
-copied_in r = pick (eqb (get_or r 6 0) 0) 0 (get_or r 9 0)
+abbrev pub copied_in : ChainRow → ℕ
+copied_in r = pick r.copied r.len 0
 
-abbrev pub joined_in : List (List ℕ) → ℕ
+abbrev pub joined_in : List ChainRow → ℕ
 joined_in [] = 0
 joined_in (r ∷ rs) = copied_in r + joined_in rs
 
 -- the place of a row's data, in the stream or from `at` on in the scratch
-abbrev pub place_in : ℕ → List ℕ → ℕ
-place_in at r = pick (eqb (get_or r 6 0) 0) (get_or r 8 0) at
+abbrev pub place_in : ℕ → ChainRow → ℕ
+place_in at r = pick r.copied at r.start
 
 -- the object records of rows
-abbrev pub record_row : ℕ → List ℕ → List ℕ
-record_row at r =
-    get_or r 0 0 ∷ get_or r 1 0 ∷ get_or r 2 0 ∷ get_or r 3 0 ∷ get_or r 6 0 ∷ place_in at r ∷ get_or r 9 0 ∷ []
+abbrev pub record_row : ℕ → ChainRow → List ℕ
+record_row at r = r.id ∷ r.version ∷ r.width ∷ r.height ∷ pick r.copied 1 0 ∷ place_in at r ∷ r.len ∷ []
 
-abbrev pub records_from : ℕ → List (List ℕ) → List (List ℕ)
+abbrev pub records_from : ℕ → List ChainRow → List (List ℕ)
 records_from at [] = []
 records_from at (r ∷ rs) = record_row at r ∷ records_from (at + copied_in r) rs
 
 -- the joined data of a row's object: that of the fragments with its id from its first segment on
-abbrev pub row_data : List ℕ → List ℕ → List ℕ
-row_data s r = joined (with_id (get_or r 0 0) (fragments_left s (get_or r 7 0)))
+abbrev pub row_data : List ℕ → ChainRow → List ℕ
+row_data s r = joined (with_id r.id (fragments_left s r.place))
 
-abbrev pub row_bytes : List ℕ → List ℕ → List ℕ
-row_bytes s r = pick (eqb (get_or r 6 0) 0) [] (row_data s r)
+abbrev pub row_bytes : List ℕ → ChainRow → List ℕ
+row_bytes s r = pick r.copied (row_data s r) []
 
-abbrev pub joined_rows : List ℕ → List (List ℕ) → List ℕ
+abbrev pub joined_rows : List ℕ → List ChainRow → List ℕ
 joined_rows s [] = []
 joined_rows s (r ∷ rs) = row_bytes s r ++ joined_rows s rs
 
 -- the rows' lengths are those of their data
-abbrev pub Measured : List ℕ → List (List ℕ) → Type 0
+abbrev pub Measured : List ℕ → List ChainRow → Type 0
 Measured s [] = Unit {0}
-Measured s (r ∷ rs) = (length (row_data s r) ≡ get_or r 9 0) × Measured s rs
+Measured s (r ∷ rs) = (length (row_data s r) ≡ r.len) × Measured s rs
 
 -- the first n rows of a table are those of accepted objects cs of the stream s
-pub record Rows (s : List ℕ) (v : Verdict) (cs : List Chain) (table : List (List ℕ)) (n need : ℕ) : Type 0 where
+pub record Rows (s : List ℕ) (v : Verdict) (cs : List Chain) (table : List ChainRow) (n need : ℕ) : Type 0 where
   pub accepts : v ≡ accepted
   pub within : n ≤ length table
   pub rows : take n table ≡ map chain_row cs
@@ -146,6 +144,6 @@ pub record Rows (s : List ℕ) (v : Verdict) (cs : List Chain) (table : List (Li
   pub joins : need ≡ joined_in (take n table)
 
 -- finding and testing the objects cs, with this answer
-pub record Gathered (s : List ℕ) (v : Verdict) (cs : List Chain) (table : List (List ℕ)) (answer : Outcome (ℕ × ℕ)) : Type 0 where
+pub record Gathered (s : List ℕ) (v : Verdict) (cs : List Chain) (table : List ChainRow) (answer : Outcome (ℕ × ℕ)) : Type 0 where
   pub turned : (k : ℕ) → answer ≡ refuses k → v ≡ refused k
   pub found : (n need : ℕ) → answer ≡ gives (n, need) → Rows s v cs table n need

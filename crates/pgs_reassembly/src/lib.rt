@@ -20,3 +20,24 @@ pub struct FragmentNumbers {
     // the length of its data
     pub len: usize,
 }
+
+// A chain: what is known of an object from the fragments that were taken.
+#[derive(Clone, Copy, Default)]
+pub struct ChainRow {
+    pub id: usize,
+    pub version: usize,
+    // of the first fragment
+    pub width: usize,
+    pub height: usize,
+    pub declared: usize,
+    // whether the last fragment was taken
+    pub closed: bool,
+    // whether it has several fragments, so that its data is copied
+    pub copied: bool,
+    // the place of its first segment in the stream
+    pub place: usize,
+    // the place of that segment's data in the stream
+    pub start: usize,
+    // the length of its joined data
+    pub len: usize,
+}

@@ -2,15 +2,17 @@
 -- Assumes nothing.
 use mathlib.Core.Path.{◌≡◌, refl, sym, ap, ◌∙◌}
 use mathlib.Core.Bool.{Bool, true, false}
-use mathlib.Core.List.{List, ◌∷◌, ◌++◌, map}
+use mathlib.Core.List.{List, ◌∷◌, ◌++◌, map, append-nil}
 use Prim.Native.Nat.{ℕ, zero, suc, ◌+◌, ◌-◌, ◌*◌, ◌≤◌, ◌<◌}
 use native.Mathlib.Omega.{arith}
 use borrow.Author.Tests.{leb-true, leb-false, le-leb, lt-leb}
 use lib.Dec.{leb}
-use lib.ListN.{length, drop, set, length-drop, length-map}
-use lib.Seq.{drop-drop}
-use Rattle.pgs_base.specs.Outcome.{pick, accepted, laid}
+use lib.ListN.{length, take, drop, set, length-drop, length-map}
+use lib.Seq.{drop-length}
+use Rattle.pgs_base.specs.Outcome.{Verdict, Delivered, pick, gives, refuses, outcome_of, unless}
 use Rattle.pgs_base.proofs.Decisions.{leb-same}
+use Rattle.pgs_base.proofs.Outcomes.{delivered, delivered-refusal, gives_as, refuses-as}
+use Rattle.pgs_base.proofs.Lists.{to_end}
 use Rattle.pgs_base.proofs.Front.{Front, begins, stored, filled}
 use Rattle.pgs_records.specs.Records.{records, records_fit, records_size}
 
@@ -55,110 +57,120 @@ pub size-fixed : (k n : ℕ) (l : List ℕ) → records_size (λ (t : List ℕ).
 size-fixed k zero l = omega arith
 size-fixed k (suc n) l = omega (arith, size-fixed k n (drop k l))
 
--- n records from place `first` of the body b are being tested: `left` of them, from place `at` on, are still to come
-pub record Walking (size : List ℕ → ℕ) (b : List ℕ) (n first left at : ℕ) : Type 0 where
-  pub inside : at ≤ length b
-  pub past : first ≤ at
-  pub fit : records_fit size left (drop at b) ≡ records_fit size n (drop first b)
-  pub reach : at + records_size size left (drop at b) ≡ first + records_size size n (drop first b)
+-- one record more than those behind it
+one_more : {n i : ℕ} → i < n → n - i ≡ suc (n - (i + 1))
+one_more h = omega arith
 
-module _ (size : List ℕ → ℕ) (b : List ℕ) (n first : ℕ) where
-  pub walking : first ≤ length b → Walking size b n first n first
-  walking h = record { inside = h; past = omega arith; fit = refl; reach = refl }
+-- of n records in l, i were tested and the others stand in `rest`
+pub record Walking (size : List ℕ → ℕ) (l : List ℕ) (n i : ℕ) (rest : List ℕ) : Type 0 where
+  pub within : length rest ≤ length l
+  pub fit : records_fit size (n - i) rest ≡ records_fit size n l
+  pub reach : length l - length rest + records_size size (n - i) rest ≡ records_size size n l
 
-  module _ {left at : ℕ} (s : Walking size b n first left at) where
-    one_more : 0 < left → left ≡ suc (left - 1)
-    one_more h = omega arith
+module _ (size : List ℕ → ℕ) (l : List ℕ) (n : ℕ) where
+  pub walking : Walking size l n 0 l
+  walking =
+      let z : n - 0 ≡ n = omega arith in
+      let e : length l - length l + records_size size n l ≡ records_size size n l = omega arith in
+      record { within = omega arith; fit = rw z; reach = rw z e }
 
-    -- the next record is whole: it is passed
-    pub walk-on : 0 < left → size (drop at b) ≤ length b - at → Walking size b n first (left - 1) (at + size (drop at b))
-    walk-on h q =
+  module _ {i : ℕ} {rest : List ℕ} (s : Walking size l n i rest) where
+    passed_one : i < n → size rest ≤ length rest → Walking size l n (i + 1) (drop (size rest) rest)
+    passed_one h q =
         record {
-          inside = omega (arith, s.inside);
-          past = omega (arith, s.past);
-          fit = rw (← drop-drop (size (drop at b)) at b) (sym passed ∙ s.fit);
-          reach = rw (← drop-drop (size (drop at b)) at b) (omega (arith, reached));
+          within = omega (arith, s.within, length-drop (size rest) rest);
+          fit = sym passed ∙ s.fit;
+          reach = omega (arith, reached, s.within, length-drop (size rest) rest);
         }
       where
-        reached : at + (size (drop at b) + records_size size (left - 1) (drop (size (drop at b)) (drop at b))) ≡ first + records_size size n (drop first b)
-        reached = ap (λ (k : ℕ). at + records_size size k (drop at b)) (sym (one_more h)) ∙ s.reach
+        reached : length l - length rest + (size rest + records_size size (n - (i + 1)) (drop (size rest) rest)) ≡ records_size size n l
+        reached = ap (λ (k : ℕ). length l - length rest + records_size size k rest) (sym (one_more h)) ∙ s.reach
 
-        passed : records_fit size left (drop at b) ≡ records_fit size (left - 1) (drop (size (drop at b)) (drop at b))
-        passed =
-            ap (λ (k : ℕ). records_fit size k (drop at b)) (one_more h)
-            ∙ simp (le-leb (size (drop at b)) (length (drop at b)) (rw length-drop q))
+        passed : records_fit size (n - i) rest ≡ records_fit size (n - (i + 1)) (drop (size rest) rest)
+        passed = ap (λ (k : ℕ). records_fit size k rest) (one_more h) ∙ simp (le-leb (size rest) (length rest) q)
+
+    -- the next record is whole: its k bytes are passed
+    pub walk-on : {k : ℕ} → i < n → k ≡ size rest → k ≤ length rest → Walking size l n (i + 1) (take (length rest - k) (drop k rest))
+    walk-on {k} h e q = rw (to_end k rest, e) (passed_one h (rw (← e) q))
 
     -- the next record is cut short: not all fit
-    pub walk-cut : 0 < left → length b - at < size (drop at b) → records_fit size n (drop first b) ≡ false
-    walk-cut h q = sym s.fit ∙ rw (one_more h) (simp (lt-leb (size (drop at b)) (length (drop at b)) (rw length-drop q)))
+    pub walk-cut : i < n → length rest < size rest → records_fit size n l ≡ false
+    walk-cut h q = sym s.fit ∙ rw (one_more h) (simp (lt-leb (size rest) (length rest) q))
 
-    -- none is left: all fit
-    pub walked_all : left ≤ 0 → records_fit size n (drop first b) ≡ true
-    walked_all h = sym s.fit ∙ ap (λ (k : ℕ). records_fit size k (drop at b)) none
-      where
-        none : left ≡ 0
-        none = omega arith
+  -- none is left: all fit
+  module _ {rest : List ℕ} (s : Walking size l n n rest) where
+    none : n - n ≡ 0
+    none = omega arith
 
-    pub walked-size : left ≤ 0 → at - first ≡ records_size size n (drop first b)
-    walked-size h = omega (arith, rw none at s.reach, s.past)
-      where
-        none : left ≡ 0
-        none = omega arith
+    pub walked_all : records_fit size n l ≡ true
+    walked_all = sym s.fit ∙ ap (λ (k : ℕ). records_fit size k rest) none
 
--- i of n records are stored, and the next one stands at place `at` of the body b
-pub record Filling {A : Type 0} (f : List ℕ → A) (size : List ℕ → ℕ) (b : List ℕ) (n : ℕ) (whole start now : List A) (i at : ℕ) : Type 0 where
-  pub upto : i ≤ n
-  pub inside : at ≤ length b
-  pub fit : records_fit size (n - i) (drop at b) ≡ true
-  pub front : Front start whole now (records f size (n - i) (drop at b)) i
+    pub walked-size : length l - length rest ≡ records_size size n l
+    walked-size = omega (arith, rw none at s.reach)
 
-module _ {A : Type 0} (f : List ℕ → A) (size : List ℕ → ℕ) (b : List ℕ) (n : ℕ) where
-  pub filling : (at : ℕ) (start : List A) → at ≤ length b → records_fit size n (drop at b) ≡ true
-      → Filling f size b n (records f size n (drop at b)) start start 0 at
-  filling at start h e =
-      let z : n - 0 ≡ n = omega arith in
-      record { upto = omega arith; inside = h; fit = rw z e; front = rw z (begins start (records f size n (drop at b))) }
+-- i of n records are stored, and the others stand in `rest`
+pub record Filling {A : Type 0} (f : List ℕ → A) (size : List ℕ → ℕ) (n : ℕ) (whole start now : List A) (i : ℕ) (rest : List ℕ) : Type 0 where
+  pub fit : records_fit size (n - i) rest ≡ true
+  pub front : Front start whole now (records f size (n - i) rest) i
 
-  module _ {whole start now : List A} {i at : ℕ} (s : Filling f size b n whole start now i at) (more : i < n) where
-    left : n - i ≡ suc (n - (i + 1))
-    left = omega arith
+module _ {A : Type 0} (f : List ℕ → A) (size : List ℕ → ℕ) (n : ℕ) where
+  pub filling : (l : List ℕ) (start : List A) → records_fit size n l ≡ true → Filling f size n (records f size n l) start start 0 l
+  filling l start e = let z : n - 0 ≡ n = omega arith in record { fit = rw z e; front = rw z (begins start (records f size n l)) }
 
-    fits : pick (leb (size (drop at b)) (length (drop at b))) (records_fit size (n - (i + 1)) (drop (size (drop at b)) (drop at b))) false ≡ true
-    fits = rw left at s.fit
+  module _ {whole start now : List A} {i : ℕ} {rest : List ℕ} (s : Filling f size n whole start now i rest) (more : i < n) where
+    fits : pick (leb (size rest) (length rest)) (records_fit size (n - (i + 1)) (drop (size rest) rest)) false ≡ true
+    fits = rw (one_more more) at s.fit
 
     -- the next record is whole
-    pub next_fits : at + size (drop at b) ≤ length b
-    next_fits =
-        let h : size (drop at b) ≤ length (drop at b) = leb-true _ _ (first_fits (leb (size (drop at b)) (length (drop at b))) _ fits) in
-        omega (arith, length-drop at b, s.inside)
+    pub next_fits : size rest ≤ length rest
+    next_fits = leb-true _ _ (first_fits (leb (size rest) (length rest)) _ fits)
 
-    next : Front start whole now (f (drop at b) ∷ records f size (n - (i + 1)) (drop (size (drop at b)) (drop at b))) i
-    next = rw left at s.front
+    next : Front start whole now (f rest ∷ records f size (n - (i + 1)) (drop (size rest) rest)) i
+    next = rw (one_more more) at s.front
 
-    -- it is stored
-    pub turn : (a : A) → a ≡ f (drop at b) → n ≤ length start → Filling f size b n whole start (set now i a) (i + 1) (at + size (drop at b))
-    turn a e room =
-        record {
-          upto = omega arith;
-          inside = next_fits;
-          fit = rw (← drop-drop (size (drop at b)) at b) (rest-fits (leb (size (drop at b)) (length (drop at b))) _ fits);
-          front = rw (← drop-drop (size (drop at b)) at b) (stored {now = now} a (rw e next) (omega (arith, s.front.same)));
-        }
+    -- it is stored, and k bytes are passed
+    pub turn : {a : A} {k : ℕ} → a ≡ f rest → k ≡ size rest → n ≤ length start
+        → Filling f size n whole start (set now i a) (i + 1) (take (length rest - k) (drop k rest))
+    turn {a} {k} e q room =
+        rw (to_end k rest, q)
+        (record {
+          fit = rest-fits (leb (size rest) (length rest)) _ fits;
+          front = stored {now = now} a (rw e next) (omega (arith, s.front.same));
+        })
 
   -- all are stored
-  pub stored-all : {whole start now : List A} {i at : ℕ} → Filling f size b n whole start now i at → n ≤ i → now ≡ whole ++ drop (length whole) start
-  stored-all {i = i} s h = filled (rw (none) at s.front)
+  pub stored-all : {whole start now : List A} {rest : List ℕ} → Filling f size n whole start now n rest → now ≡ whole ++ drop (length whole) start
+  stored-all s = filled (rw (none) at s.front)
     where
-      none : n - i ≡ 0
+      none : n - n ≡ 0
       none = omega arith
 
 -- all are stored, each as a row
-pub stored-rows : {A B : Type 0} (g : A → B) (f : List ℕ → A) (size : List ℕ → ℕ) (b l : List ℕ) (n : ℕ) {start now : List B} {i at : ℕ}
-    → Filling (λ (t : List ℕ). g (f t)) size b n (records (λ (t : List ℕ). g (f t)) size n l) start now i at
-    → n ≤ i → now ≡ laid accepted (map g (records f size n l)) start
-stored-rows g f size b l n s h = rw map-records (stored-all (λ (t : List ℕ). g (f t)) size b n s h)
+pub stored-rows : {A B : Type 0} (g : A → B) (f : List ℕ → A) (size : List ℕ → ℕ) (l : List ℕ) {start now : List B} {rest : List ℕ}
+    → Filling (λ (t : List ℕ). g (f t)) size (length start) (records (λ (t : List ℕ). g (f t)) size (length start) l) start now (length start) rest
+    → now ≡ map g (records f size (length start) l)
+stored-rows g f size l {start} s =
+    let r = λ (t : List ℕ). g (f t) in
+    let whole = records r size (length start) l in
+    stored-all r size (length start) s
+    ∙ ap (λ (k : ℕ). whole ++ drop k start) (records-length r size (length start) l)
+    ∙ ap (λ (t : List _). whole ++ t) (drop-length start)
+    ∙ append-nil whole
+    ∙ sym (map-records g f size (length start) l)
 
--- the same rows where their number is written another way
-pub rows_at : {A B : Type 0} (g : A → B) (f : List ℕ → A) (size : List ℕ → ℕ) (l : List ℕ) (before : List B) {n m : ℕ} → n ≡ m
-    → laid accepted (map g (records f size n l)) before ≡ laid accepted (map g (records f size m l)) before
-rows_at g f size l before e = ap (λ (k : ℕ). laid accepted (map g (records f size k l)) before) e
+-- records of a fixed size k: whether they fit, and the bytes that they take
+module _ (k n : ℕ) (l : List ℕ) where
+  pub fixed-fit : {len : ℕ} → len ≡ k * n → len ≤ length l
+      → gives len ≡ outcome_of (unless 4 (records_fit (λ (t : List ℕ). k) n l)) (records_size (λ (t : List ℕ). k) n l)
+  fixed-fit e h = gives_as (simp (fit-fixed k n l, le-leb (k * n) (length l) (rw (← e) h))) (e ∙ sym (size-fixed k n l))
+
+  pub fixed-cut : length l < k * n → refuses 4 ≡ outcome_of (unless 4 (records_fit (λ (t : List ℕ). k) n l)) (records_size (λ (t : List ℕ). k) n l)
+  fixed-cut h = refuses-as _ (simp (fit-fixed k n l, lt-leb (k * n) (length l) h))
+
+-- a call that fills a list, with another value beside it
+module _ {A X Y : Type 0} {v : Verdict} {x : X} (y : Y) {new before now : List A} where
+  pub delivered-as : {a : X} {b : Y} → b ≡ y → Delivered v x new before now (gives a) → Delivered v y new before now (gives b)
+  delivered-as e d = record { answered = gives_as (delivered d) e; written = d.written }
+
+  pub refused-as : {k : ℕ} → Delivered v x new before now (refuses k) → Delivered v y new before now (refuses k)
+  refused-as d = record { answered = refuses-as y (delivered-refusal d); written = d.written }

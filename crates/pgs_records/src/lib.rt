@@ -1,7 +1,7 @@
 // What the bodies of segments share: where a body's list or data stands, and the records of such a list.
 #![tactic(auto)]
 
-use pgs_base::refusal::Refusal;
+pub mod list;
 
 // The part of a body that holds its records (placements, windows, entries) or its data bytes.
 #[derive(Clone, Copy)]
@@ -12,11 +12,4 @@ pub struct BodyList {
     pub start: usize,
     // its length in bytes
     pub len: usize,
-}
-
-// A body that was tested: where its list stands, or why it is refused.
-#[derive(Clone, Copy)]
-pub enum Checked {
-    List(BodyList),
-    Refused(Refusal),
 }

@@ -1,7 +1,6 @@
 // The tests of a display set's objects and placements, before their bitmaps are stored: 01, 'Why a call is turned down'.
 ghost use Rattle.std.specs.Prelude.{◌≡◌, ◌<◌, ◌^◌, leb};
-ghost use Rattle.pgs_base.specs.Outcome.{and_then, unless};
-ghost use Rattle.pgs_bitmap_check.specs.Outcomes.{outcome};
+ghost use Rattle.pgs_base.specs.Outcome.{and_then, unless, verdict_of};
 ghost use Rattle.pgs_rendering.specs.Rows.{
   Narrow,
   row_joined,
@@ -13,7 +12,7 @@ ghost use Rattle.pgs_rendering.specs.Rows.{
 };
 
 use pgs_base::refusal::Refusal;
-use pgs_bitmap_check::bitmap::{Decoded, check_rle};
+use pgs_bitmap_check::bitmap::check_rle;
 use pgs_object_view::view::object_data;
 
 // How many bytes of the scratch the joined data of an object takes.
@@ -31,11 +30,9 @@ pub(crate) fn objects_fit(rows: &[[u64; 7]], room: usize) -> bool
     requires { Narrow rows.now }
     ensures { result ≡ leb (rows_need rows.now) room }
 {
-    let mut i: usize = 0;
     let mut left = room;
-    while i < rows.len() {
-        let row = rows[i];
-        let need = joined_length(row);
+    for row in rows {
+        let need = joined_length(*row);
         if left < need {
             return false;
         }
@@ -44,7 +41,6 @@ pub(crate) fn objects_fit(rows: &[[u64; 7]], room: usize) -> bool
             return false;
         }
         left = left - need - area;
-        i += 1;
     }
     true
 }
@@ -54,48 +50,37 @@ pub(crate) fn joined_total(rows: &[[u64; 7]]) -> usize
     requires { rows_joined rows.now < 2 ^ 64 }
     ensures { result ≡ rows_joined rows.now }
 {
-    let mut i: usize = 0;
     let mut total: usize = 0;
-    while i < rows.len() {
-        let row = rows[i];
-        total += joined_length(row);
-        i += 1;
+    for row in rows {
+        total += joined_length(*row);
     }
     total
 }
 
 // Reads every bitmap through without storing it.
-pub(crate) fn check_bitmaps<'a>(s: &'a [u8], scratch: &'a [u8], rows: &[[u64; 7]]) -> Decoded
+pub(crate) fn check_bitmaps<'a>(
+    s: &'a [u8],
+    scratch: &'a [u8],
+    rows: &[[u64; 7]],
+) -> Result<(), Refusal>
     requires { Narrow rows.now }
-    ensures { outcome result ≡ rows_reading s.now scratch.now rows.now }
+    ensures { verdict_of result ≡ rows_reading s.now scratch.now rows.now }
 {
-    let mut i: usize = 0;
-    while i < rows.len() {
-        let row = rows[i];
-        let data = object_data(s, scratch, row);
-        match check_rle(data, row[2] as u16, row[3] as u16) {
-            Decoded::Refused(why) => {
-                return Decoded::Refused(why);
-            }
-            Decoded::Accepted => {
-                i += 1;
-            }
-        }
+    for row in rows {
+        let data = object_data(s, scratch, *row);
+        check_rle(data, row[2] as u16, row[3] as u16)?;
     }
-    Decoded::Accepted
+    Ok(())
 }
 
 // Whether an object has this id.
 fn has_object(rows: &[[u64; 7]], id: u16) -> bool
     ensures { result ≡ has_row rows.now id }
 {
-    let mut i: usize = 0;
-    while i < rows.len() {
-        let row = rows[i];
+    for row in rows {
         if row[0] == id as u64 {
             return true;
         }
-        i += 1;
     }
     false
 }
@@ -104,12 +89,8 @@ fn has_object(rows: &[[u64; 7]], id: u16) -> bool
 pub(crate) fn all_present(rows: &[[u64; 7]], placements: &[[u16; 10]]) -> bool
     ensures { result ≡ all_present rows.now placements.now }
 {
-    let mut i: usize = 0;
-    while i < placements.len() {
-        let placement = placements[i];
-        if has_object(rows, placement[0]) {
-            i += 1;
-        } else {
+    for placement in placements {
+        if !has_object(rows, placement[0]) {
             return false;
         }
     }
@@ -122,18 +103,13 @@ pub(crate) fn check_content<'a>(
     scratch: &'a [u8],
     rows: &[[u64; 7]],
     placements: &[[u16; 10]],
-) -> Decoded
+) -> Result<(), Refusal>
     requires { Narrow rows.now }
-    ensures { outcome result ≡ and_then (rows_reading s.now scratch.now rows.now) (unless 33 (all_present rows.now placements.now)) }
+    ensures { verdict_of result ≡ and_then (rows_reading s.now scratch.now rows.now) (unless 33 (all_present rows.now placements.now)) }
 {
-    match check_bitmaps(s, scratch, rows) {
-        Decoded::Refused(why) => Decoded::Refused(why),
-        Decoded::Accepted => {
-            if all_present(rows, placements) {
-                Decoded::Accepted
-            } else {
-                Decoded::Refused(Refusal::ObjectNotInSet)
-            }
-        }
+    check_bitmaps(s, scratch, rows)?;
+    if !all_present(rows, placements) {
+        return Err(Refusal::ObjectNotInSet);
     }
+    Ok(())
 }

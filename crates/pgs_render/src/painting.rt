@@ -5,8 +5,9 @@ ghost use Rattle.pgs_plane.specs.Pictures.{painted_all};
 ghost use Rattle.pgs_pcs.specs.PcsBody.{crop_from};
 ghost use Rattle.pgs_rendering.specs.Rows.{Narrow, rows_area, bitmap_at, look_at, placement_in};
 
-use pgs_paint::paint::paint_placement;
-use pgs_pcs::pcs::{CompositionObject, CompositionObjectCrop, Cropping};
+use pgs_paint::paint::{Image, paint_placement};
+use pgs_pcs::pcs::{CompositionObject, CompositionObjectCrop};
+use pgs_plane::plane::PlaneSize;
 use pgs_rendering::Bitmap;
 
 // The bitmap of an object id; the bitmaps stand one after another from `from` on.
@@ -15,10 +16,8 @@ fn find_bitmap(rows: &[[u64; 7]], from: usize, id: u16) -> Bitmap
     requires rows_bound { from + rows_area rows.now < 2 ^ 64 }
     ensures { result ≡ bitmap_at from rows.now id }
 {
-    let mut i: usize = 0;
     let mut at = from;
-    while i < rows.len() {
-        let row = rows[i];
+    for row in rows {
         let width = row[2] as u16;
         let height = row[3] as u16;
         if row[0] == id as u64 {
@@ -29,7 +28,6 @@ fn find_bitmap(rows: &[[u64; 7]], from: usize, id: u16) -> Bitmap
             };
         }
         at += (width as usize) * (height as usize);
-        i += 1;
     }
     Bitmap {
         width: 0,
@@ -38,13 +36,13 @@ fn find_bitmap(rows: &[[u64; 7]], from: usize, id: u16) -> Bitmap
     }
 }
 
-fn cropping_of(row: [u16; 10]) -> Cropping
+fn cropping_of(row: [u16; 10]) -> Option<CompositionObjectCrop>
     ensures { result ≡ crop_from row }
 {
     if row[5] == 0 {
-        return Cropping::Uncropped;
+        return None;
     }
-    Cropping::Cropped(CompositionObjectCrop {
+    Some(CompositionObjectCrop {
         horizontal_position: row[6],
         vertical_position: row[7],
         width: row[8],
@@ -73,32 +71,24 @@ pub(crate) fn paint_placements(
     from: usize,
     scratch: &[u8],
     table: &[u8],
-    width: u16,
-    height: u16,
+    size: PlaneSize,
     plane: &mut [u8],
 )
     requires narrow { Narrow rows.now }
     requires rows_in_bounds { from + rows_area rows.now ≤ length scratch.now }
     requires in_bounds { 1024 ≤ length table.now }
-    requires height_in_bounds { 4 * width * height ≤ length plane.old }
-    ensures { plane.new ≡ painted_all (table_color table.now) (look_at scratch.now from rows.now) (map placement_in placements.now) width height plane.old }
+    requires height_in_bounds { 4 * size.width * size.height ≤ length plane.old }
+    ensures { plane.new ≡ painted_all (table_color table.now) (look_at scratch.now from rows.now) (map placement_in placements.now) size.width size.height plane.old }
 {
-    let mut i: usize = 0;
-    while i < placements.len() {
-        let row = placements[i];
+    for row in placements {
         let bitmap = find_bitmap(rows, from, row[0]);
         let start = bitmap.place;
         let end = start + (bitmap.width as usize) * (bitmap.height as usize);
-        paint_placement(
-            placement_of(row),
-            bitmap.width,
-            bitmap.height,
-            &scratch[start..end],
-            table,
-            width,
-            height,
-            plane,
-        );
-        i += 1;
+        let image = Image {
+            width: bitmap.width,
+            height: bitmap.height,
+            indices: &scratch[start..end],
+        };
+        let _ = paint_placement(placement_of(*row), image, table, size, plane);
     }
 }

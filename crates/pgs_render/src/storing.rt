@@ -26,12 +26,9 @@ pub(crate) fn store_bitmaps(s: &[u8], rows: &[[u64; 7]], from: usize, scratch: &
     requires { AllStorable s.now rows.now from scratch.old }
     ensures { scratch.new ≡ take from scratch.old ++ (rows_bitmaps s.now scratch.old rows.now ++ drop (from + rows_area rows.now) scratch.old) }
 {
-    let mut i: usize = 0;
     let mut at = from;
-    while i < rows.len() {
-        let row = rows[i];
-        store_bitmap(s, row, at, scratch);
+    for row in rows {
+        store_bitmap(s, *row, at, scratch);
         at += (row[2] as usize) * (row[3] as usize);
-        i += 1;
     }
 }

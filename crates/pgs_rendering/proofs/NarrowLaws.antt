@@ -1,4 +1,5 @@
 -- The width and the height of a set's objects are numbers of two bytes. Assumes nothing.
+use Rattle.std.specs.Prelude.{None, Some}
 use mathlib.Core.Path.{sym, subst}
 use mathlib.Core.Bool.{Bool, true, false}
 use mathlib.Core.List.{List, [], ◌∷◌}
@@ -12,7 +13,6 @@ use Rattle.pgs_base.proofs.Digits.{bytes_take, bytes_drop}
 use Rattle.pgs_segment.specs.Header.{size_of}
 use Rattle.pgs_ods.specs.OdsBody.{flag_of}
 use Rattle.pgs_segment.specs.OneSegment.{body_at}
-use Rattle.pgs_ods.specs.declared.ods.Dimensions.TheVariants.{Absent, Present}
 use Rattle.pgs_reassembly.specs.Objects.{Fragment, Chain, width_in, height_in, width_of, height_of, objects_of}
 use Rattle.pgs_reassembly.specs.Reassembly.{copied_data, rows_from, object_rows}
 use Rattle.pgs_reassembly.proofs.ObjectLaws.{Begins, AllBegin}
@@ -37,8 +37,8 @@ chain-narrow s h c b =
     bytes = bytes_take (size_of (drop c.first.place s)) (drop 13 (drop c.first.place s)) (bytes_drop 13 (drop c.first.place s) (bytes_drop c.first.place s h))
 
     go : (t : Bool)
-        → (width_in (pick t (Present (num 2 7 (body_at (drop c.first.place s))) (num 2 9 (body_at (drop c.first.place s)))) Absent) < 65536)
-        × (height_in (pick t (Present (num 2 7 (body_at (drop c.first.place s))) (num 2 9 (body_at (drop c.first.place s)))) Absent) < 65536)
+        → (width_in (pick t (Some (record { width = num 2 7 (body_at (drop c.first.place s)); height = num 2 9 (body_at (drop c.first.place s)) })) None) < 65536)
+        × (height_in (pick t (Some (record { width = num 2 7 (body_at (drop c.first.place s)); height = num 2 9 (body_at (drop c.first.place s)) })) None) < 65536)
     go true = (num-two 7 (body_at (drop c.first.place s)) bytes, num-two 9 (body_at (drop c.first.place s)) bytes)
     go false = (omega arith, omega arith)
 

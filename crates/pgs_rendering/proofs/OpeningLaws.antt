@@ -1,6 +1,6 @@
 -- Finding a set's objects and its PCS, before it is painted. Assumes nothing.
 use mathlib.Core.Path.{◌≡◌, refl, sym, ap, ◌∙◌}
-use mathlib.Core.List.{List, [], ◌∷◌, ◌++◌, map}
+use mathlib.Core.List.{List, ◌++◌, map}
 use Prim.Native.Nat.{ℕ, ◌+◌, ◌-◌, ◌≤◌}
 use native.Mathlib.Omega.{arith}
 use borrow.Author.Tests.{le-leb}
@@ -10,23 +10,22 @@ use lib.Seq.{take_at}
 use Rattle.pgs_base.specs.Bytes.{Bytes}
 use Rattle.pgs_base.specs.Outcome.{Verdict, accepted, refused, Outcome, gives, refuses, outcome_of, and_then, unless, needing, laid, Delivered}
 use Rattle.pgs_views.specs.declared.segment_type.SegmentType.{SegmentType}
-use Rattle.pgs_views.specs.declared.segment_type.SegmentType.TheVariants.{Pcs}
 use Rattle.pgs_base.proofs.Outcomes.{gave-value, turned_down, not-both, first-accepts, second_holds, delivered, delivered-value, delivered-refusal}
 use Rattle.pgs_color.specs.Bytes.{rgb_of}
 use Rattle.pgs_segment.specs.Fields.{body_verdict}
-use Rattle.pgs_segment.specs.Header.{pts_of, header_fields, header_of}
+use Rattle.pgs_segment.specs.Header.{pts_of, header_fields}
 use Rattle.pgs_segment.specs.OneSegment.{segment_type, segment_verdict, used_by, body_at}
 use Rattle.pgs_pcs.specs.PcsBody.{placement_row, placement_count, placements_of, placement_rows, pcs_of, pcs_verdict}
 use Rattle.pgs_stream.specs.Stream.{step_verdict}
 use Rattle.pgs_segment.specs.declared.header.SegmentHeader.{SegmentHeader}
 use Rattle.pgs_pcs.specs.declared.pcs.Pcs as composition
 use Rattle.pgs_stream.proofs.ReadingLaws.{own_body}
-use Rattle.pgs_stream.proofs.StreamLaws.{no-head}
 use Rattle.pgs_segment.proofs.SegmentLaws.{accepted-body}
 use Rattle.pgs_pcs.proofs.PcsLaws.{placement-list, placement-rows}
 use Rattle.pgs_reassembly.proofs.ListingLaws.{record-count}
 use Rattle.pgs_reassembly.specs.Objects.{Chain, objects_of, objects_verdict, object_limit, fragments_of, fragments_verdict}
-use Rattle.pgs_set.specs.Sets.{set_number, set_verdict, DisplaySet, through_end, sets_verdict, set_count, set_row}
+use Rattle.pgs_set.specs.declared.set.SetRecord.{SetRecord}
+use Rattle.pgs_set.specs.Sets.{set_number, set_verdict, DisplaySet, through_end, sets_verdict, set_count, set_record}
 use Rattle.pgs_reassembly.specs.Reassembly.{object_rows}
 use Rattle.pgs_set.specs.Walks.{SetStands, FoundSet, pieces_at}
 use Rattle.pgs_reassembly.proofs.FragmentLaws.{lent-body}
@@ -99,10 +98,10 @@ module _ (k : ℕ) (s : List ℕ) {rows : List (List ℕ)} (l : Listed k s rows)
       (first-accepts (unless 36 (ltb k (set_count s))) (fragments_verdict object_limit (fragments_of (set_number k s))) (second_holds (sets_verdict s) _ l.taken) j)
 
   pub always-found : {n : ℕ} → FoundSet s k (refuses n) → ⊥
-  always-found f = not-both set-accepted (turned_down (set_verdict k s) (set_row (set_number k s)) f.answered)
+  always-found f = not-both set-accepted (turned_down (set_verdict k s) (set_record (set_number k s)) f.answered)
 
-  pub found-time : {place end pts : ℕ} → FoundSet s k (gives (place ∷ end ∷ pts ∷ [])) → pts ≡ pts_of (set_number k s).opening
-  found-time f = let e = gave-value (set_verdict k s) (set_row (set_number k s)) f.answered in cc
+  pub found-time : {r : SetRecord} → FoundSet s k (gives r) → r.pts ≡ pts_of (set_number k s).opening
+  found-time f = ap (λ (r : SetRecord). r.pts) (gave-value (set_verdict k s) (set_record (set_number k s)) f.answered)
 
 -- the PCS
 module _ (k : ℕ) (s : List ℕ) {place : ℕ} (st : SetStands s k place) where
@@ -112,9 +111,6 @@ module _ (k : ℕ) (s : List ℕ) {place : ℕ} (st : SetStands s k place) where
   itself : set_number k s
       ≡ record { place = place; opening = take (used_by (drop place s)) (drop place s); others = through_end (pieces_at s (place + used_by (drop place s))) }
   itself = sym st.found ∙ set_here s st.standing st.more
-
-  pub head-there : {n : ℕ} → refuses n ≡ header_of (take (length s - place) (drop place s)) → ⊥
-  head-there e = no-head s place ok e
 
   module _ {h : SegmentHeader} (e : h ≡ header_fields (drop place s)) where
     pub found_within : place + (13 + h.segment_size) ≤ length s

@@ -1,4 +1,7 @@
 -- Finding bitmaps in the scratch, and painting placements in order. Assumes nothing.
+use Rattle.pgs_base.specs.Outcome.{Verdict}
+use Rattle.pgs_pcs.specs.declared.pcs.CompositionObjectCrop.{CompositionObjectCrop}
+use Rattle.std.specs.Prelude.{Option, None, Some}
 use mathlib.Core.Path.{◌≡◌, refl, sym, ap, ◌∙◌}
 use mathlib.Core.Bool.{Bool, true, false}
 use mathlib.Core.List.{List, [], ◌∷◌, map}
@@ -12,10 +15,7 @@ use Rattle.pgs_base.specs.Outcome.{pick}
 use Rattle.pgs_plane.specs.Calls.{all_fit, Paints}
 use Rattle.pgs_plane.specs.Pictures.{painted, painted_all}
 use Rattle.pgs_plane.specs.Placing.{index_shown, table_color}
-use Rattle.pgs_plane.specs.declared.plane.Painted.{Painted}
 use Rattle.pgs_plane.proofs.CallLaws.{all-fit}
-use Rattle.pgs_pcs.specs.declared.pcs.Cropping.{Cropping}
-use Rattle.pgs_pcs.specs.declared.pcs.Cropping.TheVariants.{Uncropped, Cropped}
 use Rattle.pgs_pcs.specs.declared.pcs.CompositionObject.{CompositionObject}
 use Rattle.pgs_reassembly.proofs.Lists.{drop-next}
 use Rattle.pgs_pcs.specs.PcsBody.{crop_from}
@@ -24,19 +24,19 @@ use Rattle.pgs_rendering.specs.declared.Bitmap.{Bitmap}
 
 -- the crop of a placement's record
 module _ (r : List ℕ) where
-  crop : Cropping
-  crop = Cropped (record { horizontal_position = get_or r 6 0; vertical_position = get_or r 7 0; width = get_or r 8 0; height = get_or r 9 0 })
+  crop : Option CompositionObjectCrop
+  crop = Some (record { horizontal_position = get_or r 6 0; vertical_position = get_or r 7 0; width = get_or r 8 0; height = get_or r 9 0 })
 
-  pub crop-none : get_or r 5 0 ≡ 0 → Uncropped ≡ crop_from r
+  pub crop-none : get_or r 5 0 ≡ 0 → None ≡ crop_from r
   unfolding crop
-  crop-none e = sym (ap (λ (b : Bool). pick b Uncropped crop) (eq-eqb (get_or r 5 0) 0 e))
+  crop-none e = sym (ap (λ (b : Bool). pick b None crop) (eq-eqb (get_or r 5 0) 0 e))
 
   pub crop-some : (get_or r 5 0 ≡ 0 → ⊥)
-      → Cropped (record { horizontal_position = get_or r 6 0; vertical_position = get_or r 7 0; width = get_or r 8 0; height = get_or r 9 0 }) ≡ crop_from r
+      → Some (record { horizontal_position = get_or r 6 0; vertical_position = get_or r 7 0; width = get_or r 8 0; height = get_or r 9 0 }) ≡ crop_from r
   unfolding crop
-  crop-some e = sym (ap (λ (b : Bool). pick b Uncropped crop) (ne_eqb (get_or r 5 0) 0 e))
+  crop-some e = sym (ap (λ (b : Bool). pick b None crop) (ne_eqb (get_or r 5 0) 0 e))
 
-  pub placed : {k : Cropping} → k ≡ crop_from r
+  pub placed : {k : Option CompositionObjectCrop} → k ≡ crop_from r
       → record {
         object_id = get_or r 0 0;
         window_id = 0;
@@ -138,7 +138,7 @@ module _ (ps rows : List (List ℕ)) (from : ℕ) (scratch table : List ℕ) (w 
         → {b : Bitmap} → b ≡ bitmap_at from rows (get_or (get_or ps i []) 0 0)
         → {p : CompositionObject} → p ≡ placement_in (get_or ps i [])
         → {image : List ℕ} → image ≡ take (b.width * b.height) (drop b.place scratch)
-        → {answer : Painted} {plane' : List ℕ} → Paints p (record { image_width = b.width; image_height = b.height; indices = image }) table w h plane answer plane'
+        → {answer : Verdict} {plane' : List ℕ} → Paints p (record { image_width = b.width; image_height = b.height; indices = image }) table w h plane answer plane'
         → length plane' ≡ length plane
         → Painting ps rows from scratch table w h start plane' (i + 1)
     paints-on m room tab big {b} eb {p} ep {image} ei {answer} {plane'} call long =

@@ -2,21 +2,21 @@
 use mathlib.Core.Path.{◌≡◌, refl, sym, ap, ◌∙◌}
 use mathlib.Core.Bool.{Bool, true, false}
 use mathlib.Core.List.{List, [], ◌∷◌, ◌++◌, map}
-use Prim.Native.Nat.{ℕ, suc, ◌+◌, ◌-◌, ◌*◌, ◌≤◌, ◌<◌}
-use native.Mathlib.Nat.{add-zero}
+use Prim.Native.Nat.{ℕ, zero, suc, ◌+◌, ◌-◌, ◌*◌, ◌/◌, ◌≤◌, ◌<◌}
 use native.Mathlib.Omega.{arith}
-use borrow.Author.Tests.{le-leb, eq-eqb}
-use lib.ListN.{length, take, drop, get_or, length-drop}
-use lib.Seq.{drop-drop, get_or-drop}
+use borrow.Author.Tests.{le-leb}
+use lib.ListN.{length, take, drop, length-drop}
 use Rattle.pgs_base.specs.Bytes.{num}
 use Rattle.pgs_views.specs.Kinds.{type_of}
-use Rattle.pgs_base.specs.Outcome.{Verdict, accepted, refuses, pick}
+use Rattle.pgs_base.specs.Outcome.{Verdict, accepted, pick}
 use Rattle.pgs_views.specs.declared.segment_type.SegmentType.{SegmentType}
 use Rattle.pgs_views.specs.declared.segment_type.SegmentType.TheVariants.{Pds, Ods, Pcs, Wds, End, Other}
 use Rattle.pgs_base.proofs.Bytes.{num-byte}
+use Rattle.pgs_base.proofs.Lists.{to_end}
+use Rattle.std.specs.Simd.{first_chunks}
 use Rattle.pgs_base.proofs.Outcomes.{first-accepts}
 use Rattle.pgs_segment.specs.Fields.{body_verdict}
-use Rattle.pgs_segment.specs.Header.{header_fields, header_of}
+use Rattle.pgs_segment.specs.Header.{header_fields}
 use Rattle.pgs_segment.specs.OneSegment.{segment_type, segment_verdict, used_by, body_at}
 use Rattle.pgs_pds.specs.PdsBody as pds
 use Rattle.pgs_records.specs.Records.{records}
@@ -27,12 +27,11 @@ use Rattle.pgs_segment.proofs.SegmentLaws.{accepted-body}
 use Rattle.pgs_color.specs.Bytes.{rgb_of}
 use Rattle.pgs_palette.specs.Palette.{Entry, entry_of, applying}
 use Rattle.pgs_palette.specs.Table.{laid, Updates}
-use Rattle.pgs_palette.proofs.Laying.{laid_none, laid-length, laid-append, laid-named}
+use Rattle.pgs_palette.proofs.Laying.{laid_none, laid-length, laid-append}
 use Rattle.pgs_set.specs.Sets.{is_end, through_end}
 use Rattle.pgs_set.specs.Walks.{InSet, pieces_at}
 use Rattle.pgs_set.proofs.SetLaws.{kind-read, size-read, inside-more, inside-here, inside_on}
 use Rattle.pgs_reassembly.proofs.FragmentLaws.{lent-body}
-use Rattle.pgs_stream.proofs.StreamLaws.{no-head}
 use Rattle.pgs_set.proofs.WalkLaws.{pieces-here, type-of-piece, within-here}
 use Rattle.pgs_rendering.specs.Palettes.{is_pds, entries_in, entries_named, entries_among}
 
@@ -42,92 +41,44 @@ changed {change} {t = t} h u = u.table ∙ ap (λ (b : Bool). pick b (change t) 
 
 -- the entries of one palette
 
--- an entry as a record of a list
-abbrev row : List ℕ → List ℕ
-row l = pds.entry_row (pds.entry_of l)
-
--- n entries from a place of a body on
-abbrev entries_from : ℕ → ℕ → List ℕ → List Entry
-entries_from n at body = map entry_of (map pds.entry_row (records pds.entry_of pds.entry_size n (drop at body)))
-
--- a byte of the entry at a place
-cell : (body : List ℕ) (at k : ℕ) → at + k < length body → get_or body (at + k) 0 ≡ num 1 k (drop at body)
-cell body at k h = sym (get_or-drop at body k 0) ∙ num-byte k (drop at body) (rw length-drop (omega arith))
-
-pub entry_read : (body : List ℕ) (at : ℕ) → at + 5 ≤ length body
-    → get_or body at 0 ∷ get_or body (at + 1) 0 ∷ get_or body (at + 2) 0 ∷ get_or body (at + 3) 0 ∷ get_or body (at + 4) 0 ∷ [] ≡ row (drop at body)
-entry_read body at h =
+-- five bytes are an entry as a record of a list
+chunk-row : (l : List ℕ) → 5 ≤ length l → take 5 l ≡ pds.entry_row (pds.entry_of l)
+chunk-row [] h = absurd (omega arith)
+chunk-row (a ∷ []) h = absurd (omega arith)
+chunk-row (a ∷ b ∷ []) h = absurd (omega arith)
+chunk-row (a ∷ b ∷ c ∷ []) h = absurd (omega arith)
+chunk-row (a ∷ b ∷ c ∷ d ∷ []) h = absurd (omega arith)
+chunk-row (a ∷ b ∷ c ∷ d ∷ e ∷ l) h =
+    let body : List ℕ = a ∷ b ∷ c ∷ d ∷ e ∷ l in
     λ j.
-    (ap (λ (n : ℕ). get_or body n 0) (sym (add-zero at)) ∙ cell body at 0 (omega arith)) j
-    ∷ cell body at 1 (omega arith) j
-    ∷ cell body at 2 (omega arith) j
-    ∷ cell body at 3 (omega arith) j
-    ∷ cell body at 4 (omega arith) j
+    num-byte 0 body (omega (arith, h)) j
+    ∷ num-byte 1 body (omega (arith, h)) j
+    ∷ num-byte 2 body (omega (arith, h)) j
+    ∷ num-byte 3 body (omega (arith, h)) j
+    ∷ num-byte 4 body (omega (arith, h)) j
     ∷ []
 
--- i of n entries of a body are laid over a table, and the next one stands at `at`
-pub record Laying (body start : List ℕ) (n : ℕ) (t : List ℕ) (i at : ℕ) : Type 0 where
-  pub few : i ≤ n
-  pub place : at ≡ 2 + 5 * i
-  pub same : length t ≡ length start
-  pub left : laid rgb_of (entries_from (n - i) at body) t ≡ laid rgb_of (entries_in body) start
+chunk-rows : (n : ℕ) (l : List ℕ) → 5 * n ≤ length l → first_chunks 5 n l ≡ map pds.entry_row (records pds.entry_of pds.entry_size n l)
+chunk-rows zero l h = refl
+chunk-rows (suc n) l h = λ j. chunk-row l (omega arith) j ∷ chunk-rows n (drop 5 l) (omega (arith, length-drop 5 l)) j
 
-module _ (body start : List ℕ) (n : ℕ) (all : n ≡ pds.entry_count body) where
-  pub laying : Laying body start n start 0 2
-  unfolding pds.entry_rows
-  laying =
-      let z : n - 0 ≡ pds.entry_count body = omega (arith, all) in
-      record { few = omega arith; place = omega arith; same = refl; left = ap (λ (k : ℕ). laid rgb_of (entries_from k 2 body) start) z }
+-- the chunks of a body behind its numbers, as the code lends it, are its entries
+pub chunks-are : (body : List ℕ) {chunks : List (List ℕ)} → 2 ≤ length body
+    → chunks ≡ first_chunks 5 (length (take (length body - 2) (drop 2 body)) / 5) (take (length body - 2) (drop 2 body)) → map entry_of chunks ≡ entries_in body
+unfolding pds.entry_rows
+chunks-are body h e =
+    let part : take (length body - 2) (drop 2 body) ≡ drop 2 body = to_end 2 body in
+    let size : length (drop 2 body) ≡ length body - 2 = length-drop 2 body in
+    ap (map entry_of)
+    (e
+    ∙ (λ j. first_chunks 5 (length (part j) / 5) (part j))
+    ∙ (λ j. first_chunks 5 (size j / 5) (drop 2 body))
+    ∙ chunk-rows (pds.entry_count body) (drop 2 body) (omega (arith, size)))
 
-  module _ {t : List ℕ} {i at : ℕ} (c : Laying body start n t i at) where
-    -- the next entry is whole
-    pub lays-within : i < n → 2 ≤ length body → at + 5 ≤ length body
-    lays-within m h = omega (arith, all, c.place)
-
-    pub lays-on : i < n → 1024 ≤ length start → {e : List ℕ} {t' : List ℕ} → e ≡ row (drop at body) → t' ≡ laid rgb_of (entry_of e ∷ []) t
-        → Laying body start n t' (i + 1) (at + 5)
-    lays-on m size {e} {t'} ee et =
-        record {
-          few = omega arith;
-          place = omega (arith, c.place);
-          same = ap length et ∙ laid-length rgb_of (entry_of e ∷ []) t room ∙ c.same;
-          left =
-              ap (λ (x : List ℕ). laid rgb_of rest x) et
-              ∙ sym (laid-append rgb_of (entry_of e ∷ []) rest t room)
-              ∙ ap (λ (es : List Entry). laid rgb_of es t) (sym split)
-              ∙ c.left;
-        }
-      where
-        room : 1024 ≤ length t
-        room = omega (arith, c.same)
-
-        rest : List Entry
-        rest = entries_from (n - (i + 1)) (at + 5) body
-
-        less : n - i ≡ suc (n - (i + 1))
-        less = omega arith
-
-        split : entries_from (n - i) at body ≡ entry_of e ∷ rest
-        split =
-            ap (λ (k : ℕ). entries_from k at body) less
-            ∙ (λ j. entry_of (sym ee j) ∷ map entry_of (map pds.entry_row (records pds.entry_of pds.entry_size (n - (i + 1)) (drop-drop 5 at body j))))
-
-    -- by the call that lays one entry
-    pub lays-call : i < n → 1024 ≤ length start → 2 ≤ length body → (named : ℕ) {v : Verdict} {e t' : List ℕ}
-        → e ≡ get_or body at 0 ∷ get_or body (at + 1) 0 ∷ get_or body (at + 2) 0 ∷ get_or body (at + 3) 0 ∷ get_or body (at + 4) 0 ∷ []
-        → Updates (laid rgb_of (applying named named (entry_of e ∷ []))) v t t'
-        → Laying body start n t' (i + 1) (at + 5)
-    lays-call m size h named {e = e} ee u =
-        lays-on m size (ee ∙ entry_read body at (lays-within m h))
-        (changed (omega (arith, c.same)) u ∙ ap (λ (b : Bool). laid rgb_of (pick b (entry_of e ∷ []) []) t) (eq-eqb named named refl))
-
-    pub laid-all : n ≤ i → {named first : ℕ} → first ≡ named → first ≡ num 1 0 body → t ≡ laid rgb_of (entries_named named body) start
-    laid-all h {named} {first} e q =
-        laid-named rgb_of named (num 1 0 body) (entries_in body) start t (sym q ∙ e)
-        (sym (laid_none rgb_of t) ∙ ap (λ (k : ℕ). laid rgb_of (entries_from k at body) t) (sym none) ∙ c.left)
-      where
-        none : n - i ≡ 0
-        none = omega arith
+-- a call that lays them, if the palette is the named one
+pub chunks-laid : (body : List ℕ) (named : ℕ) {first : ℕ} {es : List Entry} {v : Verdict} {t t' : List ℕ} → 1024 ≤ length t → first ≡ num 1 0 body
+    → es ≡ entries_in body → Updates (laid rgb_of (applying named first es)) v t t' → t' ≡ laid rgb_of (entries_named named body) t
+chunks-laid body named {t = t} room e q u = changed room u ∙ (λ j. laid rgb_of (applying named (e j) (q j)) t)
 
 -- the palettes of a set
 
@@ -207,9 +158,6 @@ module _ (named : ℕ) (s start : List ℕ) (from : ℕ) where
     tables_more = inside-more s c.in_set
 
     -- the segment has its head
-    pub tables-head : {k : ℕ} → refuses k ≡ header_of (take (length s - at) (drop at s)) → ⊥
-    tables-head q = no-head s at ok q
-
     module _ {h : SegmentHeader} {kind : SegmentType} {b : Bool} (e : h ≡ header_fields (drop at s)) (q : kind ≡ type_of h.segment_type) (r : b ≡ is_end kind) where
       its-end : b ≡ is_end (segment_type (drop at s))
       its-end = r ∙ ap is_end (kind-read (drop at s) e q)

@@ -21,7 +21,6 @@ use Rattle.pgs_plane.specs.Calls.{Clears}
 use Rattle.pgs_plane.specs.Pictures.{Picture, plane_of, color_over, transparent, index_of, covering_at, plane_shown, cleared, painted_all}
 use Rattle.pgs_plane.specs.Placing.{Image, table_color}
 use Rattle.pgs_plane.specs.Strips.{strip}
-use Rattle.pgs_plane.specs.declared.plane.Painted.{Painted}
 use Rattle.pgs_plane.proofs.LastWins.{last-wins}
 use Rattle.pgs_plane.proofs.StripLaws.{strip-length}
 use Rattle.pgs_pcs.specs.PcsBody.{placement_row}
@@ -230,7 +229,7 @@ module _ (k : ℕ) (s : List ℕ) where
               ∙ table-shown (entries_among pcs.palette_id (through_end (pieces_at s from))) t size (few-ids pcs.palette_id s from h) i
               ∙ ap (λ (es : List Entry). color_shown rgb_of es i) entries
 
-          pub ready-painted : {answer : Painted} {cleared' plane' : List ℕ} → Clears pcs.width pcs.height plane answer cleared'
+          pub ready-painted : {answer : Verdict} {cleared' plane' : List ℕ} → Clears pcs.width pcs.height plane answer cleared'
               → plane' ≡ painted_all (table_color t') (look_at scratch' joined rows) (map placement_in placements) pcs.width pcs.height cleared'
               → plane' ≡ laid accepted (picture_of (colors_in rgb_of (set_number k s)) (look_in (objects_of k s)) (set_number k s)) plane
           ready-painted c q =

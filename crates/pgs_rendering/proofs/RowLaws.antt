@@ -13,8 +13,7 @@ use Rattle.pgs_bitmap_check.specs.Bitmap.{reading_of}
 use Rattle.pgs_pcs.specs.PcsBody.{placement_row}
 use Rattle.pgs_pcs.specs.declared.pcs.CompositionObject.{CompositionObject}
 use Rattle.pgs_reassembly.specs.Objects.{Chain, object_id, width_of, height_of, data_of}
-use Rattle.pgs_reassembly.specs.Reassembly.{copied_data, joined_data, object_row, rows_from, shown_by}
-use Rattle.pgs_reassembly.proofs.ListingLaws.{row_copied}
+use Rattle.pgs_reassembly.specs.Reassembly.{copied, copied_data, joined_data, object_row, rows_from, shown_by}
 use Rattle.pgs_reassembly.proofs.Lists.{drop-next}
 use Rattle.pgs_rendering.specs.Images.{area_of, bitmaps_verdict, has_object, placements_verdict}
 use Rattle.pgs_rendering.specs.Rows.{row_area, row_joined, rows_joined, rows_need, rows_reading, has_row, all_present}
@@ -156,18 +155,26 @@ module _ (rows ps : List (List ℕ)) where
     pub presents-all : length ps ≤ i → true ≡ all_present rows ps
     presents-all h = ap (all_present rows) (sym (drop_of_length-le ps h)) ∙ c.same
 
+-- the joined bytes of an object's row are its copied data
+row-copied : (at : ℕ) (c : Chain) → row_joined (object_row at c) ≡ length (copied_data c)
+row-copied at c = go (copied c)
+  where
+    go : (b : Bool) → pick (eqb (pick b 1 0) 0) 0 (length (data_of c)) ≡ length (pick b (data_of c) [])
+    go true = refl
+    go false = refl
+
 -- what the rows of objects say
 pub need-of : (at : ℕ) (cs : List Chain) → rows_need (rows_from at cs) ≡ length (joined_data cs) + area_of cs
 need-of at [] = refl
 need-of at (c ∷ cs) =
     let ih = need-of (at + length (copied_data c)) cs in
-    omega (arith, ih, row_copied c, length-append (copied_data c) (joined_data cs))
+    omega (arith, ih, row-copied at c, length-append (copied_data c) (joined_data cs))
 
 pub total_of : (at : ℕ) (cs : List Chain) → rows_joined (rows_from at cs) ≡ length (joined_data cs)
 total_of at [] = refl
 total_of at (c ∷ cs) =
     let ih = total_of (at + length (copied_data c)) cs in
-    omega (arith, ih, row_copied c, length-append (copied_data c) (joined_data cs))
+    omega (arith, ih, row-copied at c, length-append (copied_data c) (joined_data cs))
 
 pub reading-of : (s scratch : List ℕ) (at : ℕ) (cs : List Chain) → map (shown_by s scratch) (rows_from at cs) ≡ map data_of cs
     → rows_reading s scratch (rows_from at cs) ≡ bitmaps_verdict cs

@@ -1,4 +1,6 @@
 -- What the placements' records and the bitmaps in the scratch show is what the placements and the objects show. Assumes nothing.
+use Rattle.pgs_pcs.specs.declared.pcs.CompositionObjectCrop.{CompositionObjectCrop}
+use Rattle.std.specs.Prelude.{Option}
 use mathlib.Core.Path.{◌≡◌, refl, sym, ap, ◌∙◌}
 use mathlib.Core.Bool.{Bool, true, false}
 use mathlib.Core.List.{List, [], ◌∷◌, ◌++◌, map, append_assoc}
@@ -14,7 +16,6 @@ use Rattle.pgs_plane.specs.Pictures.{Layer, painted, painted_all}
 use Rattle.pgs_plane.specs.Placing.{Image, image_of, part_of, part_shown, index_shown}
 use Rattle.pgs_pcs.specs.PcsBody.{placement_row}
 use Rattle.pgs_pcs.proofs.PcsLaws.{crop-back}
-use Rattle.pgs_pcs.specs.declared.pcs.Cropping.{Cropping}
 use Rattle.pgs_pcs.specs.declared.pcs.CompositionObject.{CompositionObject}
 use Rattle.pgs_reassembly.specs.Objects.{Chain, object_id, width_of, height_of, data_of}
 use Rattle.pgs_reassembly.specs.Reassembly.{copied_data, rows_from}
@@ -24,7 +25,7 @@ use Rattle.pgs_rendering.specs.Rows.{bitmap_at, image_at, look_at, placement_in}
 same-shown : (p : CompositionObject) (image : Image) → index_shown (placement_in (placement_row p)) image ≡ index_shown p image
 same-shown p image =
     ap
-    (λ (k : Cropping).
+    (λ (k : Option CompositionObjectCrop).
     λ (x y : ℕ).
     part_shown (part_of k image.image_width image.image_height) image p.object_horizontal_position p.object_vertical_position x y)
     (crop-back p.object_id p.window_id p.object_cropped_flag p.object_horizontal_position p.object_vertical_position p.cropping)

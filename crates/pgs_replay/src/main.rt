@@ -8,92 +8,33 @@ mod print;
 mod read;
 mod write;
 
-use pgs_base::number::u16_of;
+use pgs_fields::u16_at;
 use std::io;
 use std::io::{ErrorKind, Read};
 
-// The calls that read; a and b are the numbers of an input.
-fn replay_reading(rt: &impl Print, call: u8, a: u16, b: u16, input: &[u8]) -> io::Result<()> {
-    if call == b'S' {
-        read::segments(rt, input)?;
-    }
-    if call == b'P' {
-        read::pcs(rt, input)?;
-    }
-    if call == b'W' {
-        read::wds(rt, input)?;
-    }
-    if call == b'C' {
-        read::pds(rt, input)?;
-    }
-    if call == b'O' {
-        read::ods(rt, input)?;
-    }
-    if call == b'G' {
-        read::sets(rt, input)?;
-    }
-    if call == b'J' {
-        read::objects(rt, input, a)?;
-    }
-    if call == b'L' {
-        read::cards(rt, input)?;
-    }
-    if call == b'B' {
-        read::bitmap(rt, input, a, b)?;
-    }
-    if call == b'I' {
-        read::plane(rt, input, a)?;
-    }
-    if call == b'Y' {
-        read::color(rt, input)?;
-    }
-    Ok(())
-}
-
-// The calls that write.
-fn replay_writing(rt: &impl Print, call: u8, a: u16, input: &[u8]) -> io::Result<()> {
-    if call == b'R' {
-        write::segments(rt, input, a)?;
-    }
-    if call == b'U' {
-        write::other(rt, input)?;
-    }
-    if call == b'F' {
-        write::ods(rt, input)?;
-    }
-    if call == b'E' {
-        write::end(rt, input)?;
-    }
-    if call == b'p' {
-        write::pcs(rt, input, a)?;
-    }
-    if call == b'w' {
-        write::wds(rt, input, a)?;
-    }
-    if call == b'c' {
-        write::pds(rt, input, a)?;
-    }
-    Ok(())
-}
-
+// Calls what the letter names; a and b are the numbers of an input.
 fn replay(rt: &impl Print, call: u8, a: u16, b: u16, input: &[u8]) -> io::Result<()> {
-    replay_reading(rt, call, a, b, input)?;
-    replay_writing(rt, call, a, input)
-}
-
-// Replays the first `len` bytes of a buffer.
-fn replay_front(
-    rt: &impl Print,
-    call: u8,
-    a: u16,
-    b: u16,
-    buffer: &[u8],
-    len: usize,
-) -> io::Result<()> {
-    if buffer.len() < len {
-        return Ok(());
+    match call {
+        b'S' => read::segments(rt, input),
+        b'P' => read::pcs(rt, input),
+        b'W' => read::wds(rt, input),
+        b'C' => read::pds(rt, input),
+        b'O' => read::ods(rt, input),
+        b'G' => read::sets(rt, input),
+        b'J' => read::objects(rt, input, a),
+        b'L' => read::cards(rt, input),
+        b'B' => read::bitmap(rt, input, a, b),
+        b'I' => read::plane(rt, input, a),
+        b'Y' => read::color(rt, input),
+        b'R' => write::segments(rt, input, a),
+        b'U' => write::other(rt, input),
+        b'F' => write::ods(rt, input),
+        b'E' => write::end(rt, input),
+        b'p' => write::pcs(rt, input, a),
+        b'w' => write::wds(rt, input, a),
+        b'c' => write::pds(rt, input, a),
+        _ => Ok(()),
     }
-    replay(rt, call, a, b, &buffer[..len])
 }
 
 // Fills a buffer; false where the input ends before.
@@ -105,47 +46,37 @@ fn read_full(reader: &mut impl Read, buffer: &mut [u8]) -> io::Result<bool> {
     }
 }
 
-// Reads `len` bytes to the front of a buffer; false where they do not fit or are not there.
-fn read_front(reader: &mut impl Read, buffer: &mut [u8], len: usize) -> io::Result<bool> {
-    if buffer.len() < len {
-        return Ok(false);
-    }
-    read_full(reader, &mut buffer[..len])
-}
-
-// Reads one input and replays it; false at the end.
+// Reads one input and replays it; false at the end, or where an input is longer than any that is known.
 fn replay_next(rt: &impl Print, reader: &mut impl Read) -> io::Result<bool> {
     let mut head = [0u8; 7];
     if !read_full(reader, &mut head)? {
         return Ok(false);
     }
-    let len = u16_of(head[1], head[2]) as usize;
     let mut buffer = [0u8; 4096];
-    if !read_front(reader, &mut buffer, len)? {
+    let Some(input) = buffer.get_mut(..usize::from(u16_at(&head, 1))) else {
+        return Ok(false);
+    };
+    if !read_full(reader, input)? {
         return Ok(false);
     }
-    replay_front(
-        rt,
-        head[0],
-        u16_of(head[3], head[4]),
-        u16_of(head[5], head[6]),
-        &buffer,
-        len,
-    )?;
+    replay(rt, head[0], u16_at(&head, 3), u16_at(&head, 5), input)?;
     Ok(true)
 }
 
-// All inputs. A proved loop has to end, so it takes at most a number that is more than there are.
+// More inputs than there are: a proved loop has to end.
+const INPUT_LIMIT: u64 = 100000;
+
+// Replays all inputs, and says how many.
 fn replay_all(rt: &impl Print, reader: &mut impl Read) -> io::Result<u64> {
-    for count in 0..100000u64 {
+    for count in 0..INPUT_LIMIT {
         if !replay_next(rt, reader)? {
             return Ok(count);
         }
     }
-    Ok(100000)
+    Ok(INPUT_LIMIT)
 }
 
 fn main(rt: HostRuntime) -> io::Result<()> {
-    let mut reader = rt.reader();
-    print::total(&rt, replay_all(&rt, &mut reader)?)
+    let count = replay_all(&rt, &mut rt.reader())?;
+    println!(rt; "{count} answers")
 }

@@ -1,138 +1,142 @@
 // Prints answers, records and bytes.
 use pgs_base::refusal::Refusal;
+use pgs_cells::pcs::pcs_cells;
+use pgs_cells::pds::pds_cells;
+use pgs_cells_ods::ods::ods_cells;
+use pgs_ods::ods::Ods;
+use pgs_pcs::pcs::Pcs;
+use pgs_pds::pds::Pds;
+use pgs_records::BodyList;
+use std::fmt::Display;
 use std::io;
 
-pub(crate) fn text(rt: &impl Print, t: &[u8]) -> io::Result<()> {
-    rt.write_all(t)
+// What an accepted call gives.
+pub(crate) trait Given: Drop {
+    fn print(self, rt: &impl Print) -> io::Result<()>;
 }
 
-pub(crate) fn number(rt: &impl Print, n: u64) -> io::Result<()> {
-    print!(rt; " {n}")
+impl Given for () {
+    fn print(self, _rt: &impl Print) -> io::Result<()> {
+        Ok(())
+    }
 }
 
-pub(crate) fn small(rt: &impl Print, n: u16) -> io::Result<()> {
-    number(rt, n as u64)
+// How many records or bytes were stored.
+impl Given for usize {
+    fn print(self, rt: &impl Print) -> io::Result<()> {
+        print!(rt; " {self}")
+    }
+}
+
+// How many segments were written, and in how many bytes.
+impl Given for (usize, usize) {
+    fn print(self, rt: &impl Print) -> io::Result<()> {
+        let (segments, bytes) = self;
+        print!(rt; " {segments} {bytes}")
+    }
+}
+
+// A plane's width and height, and its PTS.
+impl Given for (u16, u16, u32) {
+    fn print(self, rt: &impl Print) -> io::Result<()> {
+        let (width, height, pts) = self;
+        print!(rt; " {width} {height} {pts}")
+    }
+}
+
+// The numbers of a PCS, and how many placements were stored.
+impl Given for (Pcs, usize) {
+    fn print(self, rt: &impl Print) -> io::Result<()> {
+        let (pcs, placements) = self;
+        print!(rt; " {placements}")?;
+        record(rt, &pcs_cells(pcs))
+    }
+}
+
+// The numbers of a PDS, and how many entries were stored.
+impl Given for (Pds, usize) {
+    fn print(self, rt: &impl Print) -> io::Result<()> {
+        let (pds, entries) = self;
+        print!(rt; " {entries}")?;
+        record(rt, &pds_cells(pds))
+    }
+}
+
+// The numbers of an ODS, and where its data stand.
+impl Given for (Ods, BodyList) {
+    fn print(self, rt: &impl Print) -> io::Result<()> {
+        let (ods, data) = self;
+        record(rt, &ods_cells(ods, data))
+    }
 }
 
 pub(crate) fn refused(rt: &impl Print, why: Refusal) -> io::Result<()> {
-    text(rt, b" refused")?;
-    number(rt, why.number() as u64)
+    print!(rt; " refused {}", why.number())
 }
 
-// A call that answers a number.
-pub(crate) fn accepted(rt: &impl Print, n: usize) -> io::Result<()> {
-    text(rt, b" accepted")?;
-    number(rt, n as u64)
+// The name of a call, and what it answered.
+pub(crate) fn answer(
+    rt: &impl Print,
+    name: &str,
+    answer: Result<impl Given, Refusal>,
+) -> io::Result<()> {
+    print!(rt; "{name}")?;
+    match answer {
+        Ok(given) => {
+            print!(rt; " accepted")?;
+            given.print(rt)
+        }
+        Err(why) => refused(rt, why),
+    }
 }
 
-pub(crate) fn done(rt: &impl Print) -> io::Result<()> {
-    text(rt, b" accepted")
-}
-
-pub(crate) fn next(rt: &impl Print) -> io::Result<()> {
-    text(rt, b",")
-}
-
-pub(crate) fn line(rt: &impl Print) -> io::Result<()> {
-    text(rt, b"\n")
-}
-
-pub(crate) fn total(rt: &impl Print, count: u64) -> io::Result<()> {
-    println!(rt; "{count} answers")
-}
-
-fn byte(rt: &impl Print, b: u8) -> io::Result<()> {
-    print!(rt; "{b:02x}")
-}
-
-// All bytes of a buffer, in hexadecimal.
-pub(crate) fn bytes(rt: &impl Print, s: &[u8]) -> io::Result<()> {
-    text(rt, b", ")?;
-    for b in s {
-        byte(rt, *b)?;
+pub(crate) fn record(rt: &impl Print, numbers: &[impl Display]) -> io::Result<()> {
+    print!(rt; ",")?;
+    for number in numbers {
+        print!(rt; " {number}")?;
     }
     Ok(())
 }
 
-pub(crate) fn segment(rt: &impl Print, r: [u64; 5]) -> io::Result<()> {
-    next(rt)?;
-    number(rt, r[0])?;
-    number(rt, r[1])?;
-    number(rt, r[2])?;
-    number(rt, r[3])?;
-    number(rt, r[4])
+pub(crate) fn records<N: Display, const LEN: usize>(
+    rt: &impl Print,
+    list: &[[N; LEN]],
+) -> io::Result<()> {
+    for numbers in list {
+        record(rt, numbers)?;
+    }
+    Ok(())
 }
 
-pub(crate) fn set(rt: &impl Print, r: [u64; 3]) -> io::Result<()> {
-    next(rt)?;
-    number(rt, r[0])?;
-    number(rt, r[1])?;
-    number(rt, r[2])
+// All bytes of a buffer, in hexadecimal.
+pub(crate) fn bytes(rt: &impl Print, buffer: &[u8]) -> io::Result<()> {
+    print!(rt; ", ")?;
+    for byte in buffer {
+        print!(rt; "{byte:02x}")?;
+    }
+    Ok(())
 }
 
-pub(crate) fn object(rt: &impl Print, r: [u64; 7]) -> io::Result<()> {
-    next(rt)?;
-    number(rt, r[0])?;
-    number(rt, r[1])?;
-    number(rt, r[2])?;
-    number(rt, r[3])?;
-    number(rt, r[4])?;
-    number(rt, r[5])?;
-    number(rt, r[6])
+// The line of a call that fills a list.
+pub(crate) fn listed<N: Display, const LEN: usize>(
+    rt: &impl Print,
+    name: &str,
+    given: Result<impl Given, Refusal>,
+    list: &[[N; LEN]],
+) -> io::Result<()> {
+    answer(rt, name, given)?;
+    records(rt, list)?;
+    println!(rt; "")
 }
 
-pub(crate) fn pcs(rt: &impl Print, r: [u16; 7]) -> io::Result<()> {
-    next(rt)?;
-    small(rt, r[0])?;
-    small(rt, r[1])?;
-    small(rt, r[2])?;
-    small(rt, r[3])?;
-    small(rt, r[4])?;
-    small(rt, r[5])?;
-    small(rt, r[6])
-}
-
-pub(crate) fn placement(rt: &impl Print, r: [u16; 10]) -> io::Result<()> {
-    next(rt)?;
-    small(rt, r[0])?;
-    small(rt, r[1])?;
-    small(rt, r[2])?;
-    small(rt, r[3])?;
-    small(rt, r[4])?;
-    small(rt, r[5])?;
-    small(rt, r[6])?;
-    small(rt, r[7])?;
-    small(rt, r[8])?;
-    small(rt, r[9])
-}
-
-pub(crate) fn window(rt: &impl Print, r: [u16; 5]) -> io::Result<()> {
-    next(rt)?;
-    small(rt, r[0])?;
-    small(rt, r[1])?;
-    small(rt, r[2])?;
-    small(rt, r[3])?;
-    small(rt, r[4])
-}
-
-pub(crate) fn entry(rt: &impl Print, r: [u8; 5]) -> io::Result<()> {
-    next(rt)?;
-    number(rt, r[0] as u64)?;
-    number(rt, r[1] as u64)?;
-    number(rt, r[2] as u64)?;
-    number(rt, r[3] as u64)?;
-    number(rt, r[4] as u64)
-}
-
-pub(crate) fn ods(rt: &impl Print, r: [u64; 9]) -> io::Result<()> {
-    next(rt)?;
-    number(rt, r[0])?;
-    number(rt, r[1])?;
-    number(rt, r[2])?;
-    number(rt, r[3])?;
-    number(rt, r[4])?;
-    number(rt, r[5])?;
-    number(rt, r[6])?;
-    number(rt, r[7])?;
-    number(rt, r[8])
+// The line of a call that fills a buffer.
+pub(crate) fn stored(
+    rt: &impl Print,
+    name: &str,
+    given: Result<impl Given, Refusal>,
+    buffer: &[u8],
+) -> io::Result<()> {
+    answer(rt, name, given)?;
+    bytes(rt, buffer)?;
+    println!(rt; "")
 }

@@ -1,259 +1,132 @@
 // The calls that write. Outputs are full of 9s before.
 use crate::print;
-use pgs_cells::pcs::{PcsNumbers, pcs_from};
+use pgs_base::refusal::Refusal;
+use pgs_cells::pcs::pcs_from;
 use pgs_cells::pds::pds_from;
-use pgs_cells_ods::ods::{OdsNumbers, ods_from};
-use pgs_fields::{u8_at, u16_at, u32_at};
-use pgs_stream_writer::stream::{WritesAnswer, write_segments};
+use pgs_cells_ods::ods::ods_from;
+use pgs_fields::{u16_at, u32_at};
+use pgs_stream_writer::stream::write_segments;
 use pgs_writer::end::encode_end;
 use pgs_writer::ods::encode_ods;
 use pgs_writer::other::encode_other;
-use pgs_writer_base::head::WriteAnswer;
+use pgs_writer_base::head::Timestamps;
 use pgs_writer_lists::pds::encode_pds;
 use pgs_writer_lists::wds::encode_wds;
 use pgs_writer_pcs::pcs::encode_pcs;
-use std::io;
+use std::{array, io};
 
-fn print_writes(rt: &impl Print, answer: WritesAnswer) -> io::Result<()> {
-    print::text(rt, b"writes")?;
-    match answer {
-        WritesAnswer::Refused(why) => print::refused(rt, why),
-        WritesAnswer::Writes(accepted, n) => {
-            print::accepted(rt, accepted)?;
-            print::number(rt, n as u64)
-        }
-    }
-}
-
-// The first a segments of a stream, written again.
-pub(crate) fn segments(rt: &impl Print, input: &[u8], a: u16) -> io::Result<()> {
+// The first segments of a stream, written again.
+pub(crate) fn segments(rt: &impl Print, input: &[u8], writes: u16) -> io::Result<()> {
     let mut out = [9u8; 64];
-    print_writes(rt, write_segments(input, a as usize, &mut out))?;
-    print::bytes(rt, &out)?;
-    print::line(rt)
+    let answer = write_segments(input, usize::from(writes), &mut out);
+    print::stored(rt, "writes", answer, &out)
 }
 
-fn print_write(rt: &impl Print, answer: WriteAnswer) -> io::Result<()> {
-    print::text(rt, b"write")?;
-    match answer {
-        WriteAnswer::Refused(why) => print::refused(rt, why),
-        WriteAnswer::Written(n) => print::accepted(rt, n),
+// The two times that each input of a writer begins with.
+fn times(input: &[u8]) -> Timestamps {
+    Timestamps {
+        pts: u32_at(input, 0),
+        dts: u32_at(input, 4),
     }
 }
 
-// A segment of an unknown kind: PTS, DTS, the kind's byte, then its data.
+// Cells of 2 bytes each, as many as are wanted.
+fn cells<const N: usize>(bytes: &[u8]) -> [u16; N] {
+    array::from_fn(|i| u16_at(bytes, 2 * i))
+}
+
+// A segment of an unknown kind: its times, the kind's byte, then its data.
 pub(crate) fn other(rt: &impl Print, input: &[u8]) -> io::Result<()> {
     if input.len() < 9 {
         return Ok(());
     }
-    let pts = u32_at(input, 0);
-    let dts = u32_at(input, 4);
     let mut out = [9u8; 32];
-    print_write(rt, encode_other(pts, dts, input[8], &input[9..], &mut out))?;
-    print::bytes(rt, &out)?;
-    print::line(rt)
+    let answer = encode_other(times(input), input[8], &input[9..], &mut out);
+    print::stored(rt, "write", answer, &out)
 }
 
-// The seven cells of a fragment, 4 bytes each.
-fn cells(input: &[u8]) -> [u32; 7] {
-    [
-        u32_at(input, 8),
-        u32_at(input, 12),
-        u32_at(input, 16),
-        u32_at(input, 20),
-        u32_at(input, 24),
-        u32_at(input, 28),
-        u32_at(input, 32),
-    ]
+fn write_ods(
+    times: Timestamps,
+    cells: [u32; 7],
+    data: &[u8],
+    out: &mut [u8],
+) -> Result<usize, Refusal> {
+    encode_ods(times, ods_from(cells)?, data, out)
 }
 
-fn write_ods(pts: u32, dts: u32, cells: [u32; 7], data: &[u8], out: &mut [u8]) -> WriteAnswer {
-    match ods_from(cells) {
-        OdsNumbers::Refused(why) => WriteAnswer::Refused(why),
-        OdsNumbers::Numbers(o) => encode_ods(pts, dts, o, data, out),
-    }
-}
-
-// A fragment: PTS, DTS, its cells, then its data.
+// A fragment: its times, its seven cells of 4 bytes each, then its data.
 pub(crate) fn ods(rt: &impl Print, input: &[u8]) -> io::Result<()> {
     if input.len() < 36 {
         return Ok(());
     }
-    let pts = u32_at(input, 0);
-    let dts = u32_at(input, 4);
-    let numbers = cells(input);
+    let numbers = array::from_fn(|i| u32_at(input, 8 + 4 * i));
     let mut out = [9u8; 40];
-    print_write(rt, write_ods(pts, dts, numbers, &input[36..], &mut out))?;
-    print::bytes(rt, &out)?;
-    print::line(rt)
+    let answer = write_ods(times(input), numbers, &input[36..], &mut out);
+    print::stored(rt, "write", answer, &out)
 }
 
-// An END: PTS, DTS.
+// An END: its times.
 pub(crate) fn end(rt: &impl Print, input: &[u8]) -> io::Result<()> {
     if input.len() < 8 {
         return Ok(());
     }
-    let pts = u32_at(input, 0);
-    let dts = u32_at(input, 4);
     let mut out = [9u8; 16];
-    print_write(rt, encode_end(pts, dts, &mut out))?;
-    print::bytes(rt, &out)?;
-    print::line(rt)
-}
-
-// The seven cells at the front of a PCS's, 2 bytes each.
-fn pcs_cells(l: &[u8]) -> [u16; 7] {
-    [
-        u16_at(l, 0),
-        u16_at(l, 2),
-        u16_at(l, 4),
-        u16_at(l, 6),
-        u16_at(l, 8),
-        u16_at(l, 10),
-        u16_at(l, 12),
-    ]
-}
-
-fn placement(l: &[u8]) -> [u16; 10] {
-    [
-        u16_at(l, 0),
-        u16_at(l, 2),
-        u16_at(l, 4),
-        u16_at(l, 6),
-        u16_at(l, 8),
-        u16_at(l, 10),
-        u16_at(l, 12),
-        u16_at(l, 14),
-        u16_at(l, 16),
-        u16_at(l, 18),
-    ]
-}
-
-fn window(l: &[u8]) -> [u16; 5] {
-    [
-        u16_at(l, 0),
-        u16_at(l, 2),
-        u16_at(l, 4),
-        u16_at(l, 6),
-        u16_at(l, 8),
-    ]
-}
-
-fn entry(l: &[u8]) -> [u8; 5] {
-    [
-        u8_at(l, 0),
-        u8_at(l, 1),
-        u8_at(l, 2),
-        u8_at(l, 3),
-        u8_at(l, 4),
-    ]
+    let answer = encode_end(times(input), &mut out);
+    print::stored(rt, "write", answer, &out)
 }
 
 fn write_pcs(
-    pts: u32,
-    dts: u32,
+    times: Timestamps,
     cells: [u16; 7],
-    list: &[[u16; 10]],
+    placements: &[[u16; 10]],
     out: &mut [u8],
-) -> WriteAnswer {
-    match pcs_from(cells) {
-        PcsNumbers::Refused(why) => WriteAnswer::Refused(why),
-        PcsNumbers::Numbers(p) => encode_pcs(pts, dts, p, list, out),
-    }
+) -> Result<usize, Refusal> {
+    encode_pcs(times, pcs_from(cells)?, placements, out)
 }
 
-// Writes the first n records of a list.
-fn put_pcs(
-    rt: &impl Print,
-    pts: u32,
-    dts: u32,
-    cells: [u16; 7],
-    list: &[[u16; 10]],
-    n: usize,
-    out: &mut [u8],
-) -> io::Result<()> {
-    if list.len() < n {
-        return Ok(());
-    }
-    print_write(rt, write_pcs(pts, dts, cells, &list[..n], out))
-}
-
-fn put_wds(
-    rt: &impl Print,
-    pts: u32,
-    dts: u32,
-    list: &[[u16; 5]],
-    n: usize,
-    out: &mut [u8],
-) -> io::Result<()> {
-    if list.len() < n {
-        return Ok(());
-    }
-    print_write(rt, encode_wds(pts, dts, &list[..n], out))
-}
-
-fn put_pds(
-    rt: &impl Print,
-    pts: u32,
-    dts: u32,
-    cells: [u8; 2],
-    list: &[[u8; 5]],
-    n: usize,
-    out: &mut [u8],
-) -> io::Result<()> {
-    if list.len() < n {
-        return Ok(());
-    }
-    print_write(rt, encode_pds(pts, dts, pds_from(cells), &list[..n], out))
-}
-
-// A composition: PTS, DTS, its cells, then room for two placements, of which the first a are written.
-pub(crate) fn pcs(rt: &impl Print, input: &[u8], a: u16) -> io::Result<()> {
+// A composition: its times, its cells, then room for two placements, of which the first so many are written.
+pub(crate) fn pcs(rt: &impl Print, input: &[u8], count: u16) -> io::Result<()> {
     if input.len() < 62 {
         return Ok(());
     }
-    let pts = u32_at(input, 0);
-    let dts = u32_at(input, 4);
-    let cells = pcs_cells(&input[8..]);
-    let list = [placement(&input[22..]), placement(&input[42..])];
+    let numbers = cells(&input[8..]);
+    let list = [cells(&input[22..]), cells(&input[42..])];
     let mut out = [9u8; 60];
-    put_pcs(rt, pts, dts, cells, &list, a as usize, &mut out)?;
+    if let Some(placements) = list.get(..usize::from(count)) {
+        let answer = write_pcs(times(input), numbers, placements, &mut out);
+        print::answer(rt, "write", answer)?;
+    }
     print::bytes(rt, &out)?;
-    print::line(rt)
+    println!(rt; "")
 }
 
-// Windows: PTS, DTS, then room for two, of which the first a are written.
-pub(crate) fn wds(rt: &impl Print, input: &[u8], a: u16) -> io::Result<()> {
+// Windows: the times, then room for two, of which the first so many are written.
+pub(crate) fn wds(rt: &impl Print, input: &[u8], count: u16) -> io::Result<()> {
     if input.len() < 28 {
         return Ok(());
     }
-    let pts = u32_at(input, 0);
-    let dts = u32_at(input, 4);
-    let list = [window(&input[8..]), window(&input[18..])];
+    let list = [cells(&input[8..]), cells(&input[18..])];
     let mut out = [9u8; 34];
-    put_wds(rt, pts, dts, &list, a as usize, &mut out)?;
+    if let Some(windows) = list.get(..usize::from(count)) {
+        let answer = encode_wds(times(input), windows, &mut out);
+        print::answer(rt, "write", answer)?;
+    }
     print::bytes(rt, &out)?;
-    print::line(rt)
+    println!(rt; "")
 }
 
-// A palette: PTS, DTS, its id and version, then room for two entries, of which the first a are written.
-pub(crate) fn pds(rt: &impl Print, input: &[u8], a: u16) -> io::Result<()> {
+// A palette: its times, its id and version, then room for two entries, of which the first so many are written.
+pub(crate) fn pds(rt: &impl Print, input: &[u8], count: u16) -> io::Result<()> {
     if input.len() < 20 {
         return Ok(());
     }
-    let pts = u32_at(input, 0);
-    let dts = u32_at(input, 4);
-    let list = [entry(&input[10..]), entry(&input[15..])];
+    let numbers = pds_from([input[8], input[9]]);
+    let (list, _) = input[10..20].as_chunks::<5>();
     let mut out = [9u8; 28];
-    put_pds(
-        rt,
-        pts,
-        dts,
-        [input[8], input[9]],
-        &list,
-        a as usize,
-        &mut out,
-    )?;
+    if let Some(entries) = list.get(..usize::from(count)) {
+        let answer = encode_pds(times(input), numbers, entries, &mut out);
+        print::answer(rt, "write", answer)?;
+    }
     print::bytes(rt, &out)?;
-    print::line(rt)
+    println!(rt; "")
 }

@@ -7,7 +7,8 @@ use Prim.Native.Nat.{ℕ, zero, suc, ◌+◌, ◌-◌, ◌≤◌, ◌<◌}
 use native.Mathlib.Decide.{dec_lt}
 use native.Mathlib.Omega.{arith}
 use lib.Dec.{eqb}
-use lib.ListN.{length, get_or, get_or-eq_default}
+use lib.ListN.{length, get_or, take, drop, length-drop, get_or-eq_default}
+use lib.Seq.{length-take-le, get_or-take, get_or-drop}
 use borrow.Author.Count.{below_more}
 use borrow.Author.Tests.{eqb-false, not-true}
 use Rattle.pgs_run_length.specs.Literals.{literals, Literals}
@@ -48,9 +49,19 @@ module _ (l : List ℕ) (at : ℕ) where
   literals-said zero e = literals-none
   literals-said (suc n) e = subst (Literals l at) {x = n + 1} {y = suc n} (omega arith) (literals-more n (literals l at n) (literals-said n) e)
 
-  -- a byte more is tested
-  pub literals-tested : (n : ℕ) {all : Bool} → all ≡ literals l at n → (all && not (eqb (get_or l (at + n) 0) 0)) ≡ literals l at (n + 1)
-  literals-tested n e = ap (λ (b : Bool). b && not (eqb (get_or l (at + n) 0) 0)) e ∙ ap (literals l at) {x = suc n} {y = n + 1} (omega arith)
+  -- the part that has eight bytes from a place on
+  abbrev part : List ℕ
+  part = take (at + 8 - at) (drop at l)
+
+  pub part-length : at + 8 ≤ length l → length part ≡ 8
+  part-length h = length-take-le (at + 8 - at) (drop at l) (rw length-drop (omega arith)) ∙ omega arith
+
+  -- a byte more of it is tested
+  pub literals-read : (n : ℕ) {all : Bool} → at + 8 ≤ length l → n < length part → all ≡ literals l at n
+      → (all && not (eqb (get_or part n 0) 0)) ≡ literals l at (n + 1)
+  literals-read n {all} there h e =
+      let few : n < at + 8 - at = omega (arith, part-length there) in
+      rw (e, get_or-take (at + 8 - at) (drop at l) n 0 few, get_or-drop at l n 0) (ap (literals l at) {x = suc n} {y = n + 1} (omega arith))
 
   -- one of the bytes is not there
   pub literals-missing : (n : ℕ) → length l ≤ at + n → false ≡ literals l at (suc n)

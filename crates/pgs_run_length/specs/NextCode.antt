@@ -1,17 +1,18 @@
 -- The code that a call of this crate found, as the format has it.
+use Rattle.std.specs.Prelude.{Result, Ok, Err, Option, None, Some}
 use Rattle.pgs_base.specs.Refusals.{number_of}
+use Rattle.pgs_base.specs.declared.refusal.Refusal.{Refusal}
 use Rattle.pgs_run_length.specs.RunLength.{run, line_end, FirstCode, none, found, truncated}
-use Rattle.pgs_run_length.specs.declared.code.NextCode.{NextCode}
-use Rattle.pgs_run_length.specs.declared.code.NextCode.TheVariants.{Run, LineEnd, Truncated}
-use Rattle.pgs_run_length.specs.declared.code.CodeAt.{CodeAt}
-use Rattle.pgs_run_length.specs.declared.code.CodeAt.TheVariants.{Nothing, Code}
+use Rattle.pgs_run_length.specs.declared.code.Code.{Code}
+use Rattle.pgs_run_length.specs.declared.code.Code.TheVariants.{Run, LineEnd}
 
-abbrev pub first_code : NextCode → FirstCode
-first_code (Run count color taken) = found (run count color) taken
-first_code LineEnd = found line_end 2
-first_code (Truncated why) = truncated (number_of why)
+abbrev pub first_code : Result Code Refusal → FirstCode
+first_code (Ok (Run r)) = found (run r.count r.color) r.taken
+first_code (Ok LineEnd) = found line_end 2
+first_code (Err why) = truncated (number_of why)
 
 -- and where there may be none
-abbrev pub code_at : CodeAt → FirstCode
-code_at Nothing = none
-code_at (Code code) = first_code code
+abbrev pub code_at : Result (Option Code) Refusal → FirstCode
+code_at (Ok None) = none
+code_at (Ok (Some code)) = first_code (Ok code)
+code_at (Err why) = first_code (Err why)

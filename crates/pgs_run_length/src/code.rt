@@ -7,52 +7,33 @@ ghost use Rattle.pgs_run_length.specs.Literals.{literals};
 
 use pgs_base::refusal::Refusal;
 
-// The code at a place of the data, with the number of bytes that it took, or why it is none.
-#[derive(Clone, Copy)]
-pub enum NextCode {
-    Run {
-        count: usize,
-        color: u8,
-        taken: usize,
-    },
+// A run of pixels of one color, and the number of bytes that its code takes.
+#[derive(Clone, Copy, Debug, PartialEq, Eq)]
+pub struct Run {
+    pub count: usize,
+    pub color: u8,
+    pub taken: usize,
+}
+
+// A code: a run, or the end of a line, which takes two bytes.
+#[derive(Clone, Copy, Debug, PartialEq, Eq)]
+pub enum Code {
+    Run(Run),
     LineEnd,
-    Truncated(Refusal),
-}
-
-// What stands at a place of the data: nothing at its end or past it, else a code or why it is none.
-#[derive(Clone, Copy)]
-pub enum CodeAt {
-    Nothing,
-    Code(NextCode),
-}
-
-// A byte as a number; its bound spares each caller a proof.
-fn wide(x: u8) -> usize
-    ensures { (result ≡ x) × (result < 256) }
-{
-    x as usize
-}
-
-// A run of pixels of one color, and the bytes that its code takes.
-#[derive(Clone, Copy)]
-struct Run {
-    count: usize,
-    color: u8,
-    taken: usize,
 }
 
 // The length of a short run by its second byte.
 pub fn short_count(second: u8) -> usize
     ensures { result ≡ second % 64 }
 {
-    wide(second % 64)
+    usize::from(second % 64)
 }
 
 // The length of a long run by its second and third byte.
 pub fn long_count(second: u8, third: u8) -> usize
     ensures { (result ≡ 256 * (second % 64) + third) × (result < 16384) }
 {
-    256 * short_count(second) + wide(third)
+    256 * short_count(second) + usize::from(third)
 }
 
 // The length of the run of 00, this second byte and one more. Here and for its color the compiler chooses without a branch.
@@ -113,20 +94,20 @@ fn truncation(second: u8) -> Refusal
 fn byte_or_zero(data: &[u8], at: usize) -> u8
     ensures { result ≡ get_or «data».now at 0 }
 {
-    if at < data.len() { data[at] } else { 0 }
+    data.get(at).copied().unwrap_or(0)
 }
 
 // The code that begins with the byte 00 at a place where bytes may be missing.
-fn escape_near_end(data: &[u8], at: usize) -> NextCode
+fn escape_near_end(data: &[u8], at: usize) -> Result<Code, Refusal>
     requires { at < length «data».now }
     ensures { first_code result ≡ escape_of (drop (at + 1) «data».now) }
 {
     if data.len() <= at + 1 {
-        return NextCode::Truncated(Refusal::TruncatedEscape);
+        return Err(Refusal::TruncatedEscape);
     }
     let second = data[at + 1];
     if second == 0 {
-        return NextCode::LineEnd;
+        return Ok(Code::LineEnd);
     }
     let run = run_of(
         second,
@@ -134,17 +115,13 @@ fn escape_near_end(data: &[u8], at: usize) -> NextCode
         byte_or_zero(data, at + 3),
     );
     if data.len() - at < run.taken {
-        return NextCode::Truncated(truncation(second));
+        return Err(truncation(second));
     }
-    NextCode::Run {
-        count: run.count,
-        color: run.color,
-        taken: run.taken,
-    }
+    Ok(Code::Run(run))
 }
 
 // The code that begins with the byte 00 at a place. No code takes more than four bytes, so that one test of the length is enough.
-fn escape_at(data: &[u8], at: usize) -> NextCode
+fn escape_at(data: &[u8], at: usize) -> Result<Code, Refusal>
     requires { at < length «data».now }
     ensures { first_code result ≡ escape_of (drop (at + 1) «data».now) }
 {
@@ -153,49 +130,40 @@ fn escape_at(data: &[u8], at: usize) -> NextCode
     }
     let second = data[at + 1];
     if second == 0 {
-        return NextCode::LineEnd;
+        return Ok(Code::LineEnd);
     }
-    let run = run_of(second, data[at + 2], data[at + 3]);
-    NextCode::Run {
-        count: run.count,
-        color: run.color,
-        taken: run.taken,
-    }
+    Ok(Code::Run(run_of(second, data[at + 2], data[at + 3])))
 }
 
-// The code at a place of the data: a place, and not a part, since the data may lie in memory that the reader stores to.
-pub fn next_code(data: &[u8], at: usize) -> CodeAt
+// The code at a place of the data, none at its end or past it, or why bytes are missing. A place, and not a part, since the data may lie in
+// memory that the reader stores to.
+pub fn next_code(data: &[u8], at: usize) -> Result<Option<Code>, Refusal>
     ensures { code_at result ≡ code_of (drop at «data».now) }
 {
     if data.len() <= at {
-        return CodeAt::Nothing;
+        return Ok(None);
     }
     let b = data[at];
     if b != 0 {
-        return CodeAt::Code(NextCode::Run {
+        return Ok(Some(Code::Run(Run {
             count: 1,
             color: b,
             taken: 1,
-        });
+        })));
     }
-    CodeAt::Code(escape_at(data, at))
+    Ok(Some(escape_at(data, at)?))
 }
 
 // Whether eight bytes from a place on are there and are one pixel each. It tests them all, so that the compiler can test them at once.
 pub fn eight_literals(data: &[u8], at: usize) -> bool
     ensures { result ≡ literals «data».now at 8 }
 {
-    if data.len() < at {
-        return false;
-    }
-    if data.len() - at < 8 {
+    if data.len() < at || data.len() - at < 8 {
         return false;
     }
     let mut all = true;
-    let mut i: usize = 0;
-    while i < 8 {
-        all = all & (data[at + i] != 0);
-        i += 1;
+    for byte in &data[at..at + 8] {
+        all = all & (*byte != 0);
     }
     all
 }

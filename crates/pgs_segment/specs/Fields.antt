@@ -3,8 +3,7 @@
 -- The kind's byte is that of the body's case; only an unknown kind carries one.
 use Rattle.std.specs.Prelude.{ℕ, List, length, take, drop, eqb}
 use Rattle.pgs_views.specs.Kinds.{raw_of}
-use Rattle.pgs_base.specs.Outcome.{Verdict, accepted, Outcome, gives, refuses, unless}
-use Rattle.pgs_base.specs.Refusals.{number_of}
+use Rattle.pgs_base.specs.Outcome.{Verdict, accepted, unless}
 use Rattle.pgs_ods.specs.OdsBody.{ods_of, ods_data, ods_verdict, ods_list}
 use Rattle.pgs_pcs.specs.PcsBody.{pcs_of, placements_of, pcs_verdict, pcs_list}
 use Rattle.pgs_pds.specs.PdsBody.{pds_of, entries_of, pds_verdict, pds_list}
@@ -16,8 +15,6 @@ use Rattle.pgs_pcs.specs.declared.pcs.CompositionObject.{CompositionObject}
 use Rattle.pgs_pcs.specs.declared.pcs.Pcs.{Pcs}
 use Rattle.pgs_pds.specs.declared.pds.PaletteEntry.{PaletteEntry}
 use Rattle.pgs_pds.specs.declared.pds.Pds.{Pds}
-use Rattle.pgs_segment.specs.declared.segment.BodyAnswer.{BodyAnswer}
-use Rattle.pgs_segment.specs.declared.segment.BodyAnswer.TheVariants.{Body, Refused}
 use Rattle.pgs_records.specs.declared.BodyList.{BodyList}
 use Rattle.pgs_segment.specs.declared.segment.SegmentBody.{SegmentBody}
 use Rattle.pgs_segment.specs.declared.segment.SegmentBody.TheVariants as numbers
@@ -86,7 +83,3 @@ numbers_of (pds p es) = numbers.Pds p
 numbers_of (ods o d) = numbers.Ods o
 numbers_of end = numbers.End
 numbers_of (other v d) = numbers.Other v
-
-abbrev pub body_outcome : BodyAnswer → Outcome (SegmentBody × BodyList)
-body_outcome (Body s l) = gives (s, l)
-body_outcome (Refused r) = refuses (number_of r)

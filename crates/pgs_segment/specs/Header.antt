@@ -2,11 +2,8 @@
 -- From US 2009/0185789, whose text is not at hand: 01 gives what is needed of it.
 use Rattle.std.specs.Prelude.{ℕ, Bool, false, List, length, get_or, leb, eqb}
 use Rattle.pgs_base.specs.Bytes.{num}
-use Rattle.pgs_base.specs.Outcome.{Verdict, Outcome, gives, refuses, outcome_of, and_then, unless, pick}
-use Rattle.pgs_base.specs.Refusals.{number_of}
+use Rattle.pgs_base.specs.Outcome.{Verdict, Outcome, outcome_of, and_then, unless, pick}
 use Rattle.pgs_segment.specs.declared.header.SegmentHeader.{SegmentHeader}
-use Rattle.pgs_segment.specs.declared.header.HeaderAnswer.{HeaderAnswer}
-use Rattle.pgs_segment.specs.declared.header.HeaderAnswer.TheVariants.{Header, Refused}
 
 -- PTS, DTS, the kind's byte and the body size
 abbrev pub pts_of : List ℕ → ℕ
@@ -34,7 +31,3 @@ header_fields l = record { pts = pts_of l; dts = dts_of l; segment_type = kind_o
 
 abbrev pub header_of : List ℕ → Outcome SegmentHeader
 header_of l = outcome_of (header_verdict l) (header_fields l)
-
-abbrev pub header_outcome : HeaderAnswer → Outcome SegmentHeader
-header_outcome (Header h) = gives h
-header_outcome (Refused r) = refuses (number_of r)

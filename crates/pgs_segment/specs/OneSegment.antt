@@ -1,17 +1,12 @@
 -- One segment at the front of a list of bytes. 01: "Segments are tested 1, 2, 3, then their body."
 use Rattle.std.specs.Prelude.{ℕ, ◌+◌, List, length, take, drop, leb}
-use Rattle.pgs_base.specs.Outcome.{Verdict, Outcome, gives, refuses, and_then, unless}
-use Rattle.pgs_base.specs.Refusals.{number_of}
+use Rattle.pgs_base.specs.Outcome.{Verdict, and_then, unless}
 use Rattle.pgs_segment.specs.Fields.{SegmentFields, body_verdict, body_of, body_list, numbers_of}
 use Rattle.pgs_segment.specs.Header.{pts_of, dts_of, kind_of, size_of, header_verdict, header_fields}
 use Rattle.pgs_views.specs.Kinds.{type_of}
 use Rattle.pgs_views.specs.declared.segment_type.SegmentType.{SegmentType}
 use Rattle.pgs_segment.specs.declared.segment.Frame.{Frame}
-use Rattle.pgs_segment.specs.declared.segment.FrameAnswer.{FrameAnswer}
-use Rattle.pgs_segment.specs.declared.segment.FrameAnswer.TheVariants as frames
 use Rattle.pgs_segment.specs.declared.segment.Segment as declared-segment
-use Rattle.pgs_segment.specs.declared.segment.SegmentAnswer.{SegmentAnswer}
-use Rattle.pgs_segment.specs.declared.segment.SegmentAnswer.TheVariants as answers
 
 -- the segment's kind
 abbrev pub segment_type : List ℕ → SegmentType
@@ -38,10 +33,6 @@ fields_of l = record { pts = pts_of l; dts = dts_of l; body = body_of (segment_t
 abbrev pub frame_of : List ℕ → Frame
 frame_of l = record { header = header_fields l; list = body_list (segment_type l) (body_at l) }
 
-abbrev pub frame_outcome : FrameAnswer → Outcome Frame
-frame_outcome (frames.Framed f) = gives f
-frame_outcome (frames.Refused r) = refuses (number_of r)
-
 -- the answer of `Segment::parse`
 abbrev pub segment_of : List ℕ → declared-segment.Segment
 segment_of l =
@@ -51,7 +42,3 @@ segment_of l =
       list = body_list (segment_type l) (body_at l);
       used = used_by l;
     }
-
-abbrev pub segment_outcome : SegmentAnswer → Outcome declared-segment.Segment
-segment_outcome (answers.Segment s) = gives s
-segment_outcome (answers.Refused r) = refuses (number_of r)

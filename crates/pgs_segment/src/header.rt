@@ -1,6 +1,7 @@
 // The 13-byte head of a segment (01, module 2).
 ghost use Rattle.std.specs.Prelude.{◌≡◌, drop};
-ghost use Rattle.pgs_segment.specs.Header.{header_fields, header_outcome, header_of};
+ghost use Rattle.pgs_base.specs.Outcome.{outcome};
+ghost use Rattle.pgs_segment.specs.Header.{header_fields, header_of};
 
 use pgs_base::refusal::Refusal;
 use pgs_fields::{u8_at, u16_at, u32_at};
@@ -13,29 +14,23 @@ pub struct SegmentHeader {
     pub segment_size: u16,
 }
 
-#[derive(Clone, Copy)]
-pub enum HeaderAnswer {
-    Header(SegmentHeader),
-    Refused(Refusal),
-}
-
 impl SegmentHeader {
     // The size of the head itself.
     pub const SIZE: usize = 13;
 
-    pub fn parse(buf: &[u8]) -> HeaderAnswer
-        ensures { header_outcome result ≡ header_of buf.now }
+    pub fn parse(buf: &[u8]) -> Result<SegmentHeader, Refusal>
+        ensures { outcome result ≡ header_of buf.now }
     {
         if buf.len() < SegmentHeader::SIZE {
-            return HeaderAnswer::Refused(Refusal::TruncatedHeader);
+            return Err(Refusal::TruncatedHeader);
         }
         if buf[0] != 0x50 {
-            return HeaderAnswer::Refused(Refusal::BadMagic);
+            return Err(Refusal::BadMagic);
         }
         if buf[1] != 0x47 {
-            return HeaderAnswer::Refused(Refusal::BadMagic);
+            return Err(Refusal::BadMagic);
         }
-        HeaderAnswer::Header(SegmentHeader {
+        Ok(SegmentHeader {
             pts: u32_at(buf, 2),
             dts: u32_at(buf, 6),
             segment_type: u8_at(buf, 10),

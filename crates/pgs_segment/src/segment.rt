@@ -1,22 +1,19 @@
 // One segment: its head and its body (01, module 4).
 ghost use Rattle.std.specs.Prelude.{◌≡◌};
-ghost use Rattle.pgs_base.specs.Outcome.{outcome_of};
-ghost use Rattle.pgs_records.specs.Checks.{checked_outcome};
-ghost use Rattle.pgs_segment.specs.Fields.{body_verdict, body_list, body_of, numbers_of, body_outcome};
+ghost use Rattle.pgs_base.specs.Outcome.{outcome, outcome_of};
+ghost use Rattle.pgs_segment.specs.Fields.{body_verdict, body_list, body_of, numbers_of};
 ghost use Rattle.pgs_segment.specs.OneSegment.{
   segment_verdict,
   frame_of,
-  frame_outcome,
   segment_of,
-  segment_outcome,
 };
 
-use crate::header::{HeaderAnswer, SegmentHeader};
+use crate::header::SegmentHeader;
 use pgs_base::refusal::Refusal;
 use pgs_ods::ods::{Ods, check_ods};
 use pgs_pcs::pcs::{Pcs, check_pcs};
 use pgs_pds::pds::{Pds, check_pds};
-use pgs_records::{BodyList, Checked};
+use pgs_records::BodyList;
 use pgs_views::segment_type::SegmentType;
 use pgs_wds::wds::check_wds;
 
@@ -31,23 +28,11 @@ pub enum SegmentBody {
     Other(u8),
 }
 
-#[derive(Clone, Copy)]
-pub enum BodyAnswer {
-    Body(SegmentBody, BodyList),
-    Refused(Refusal),
-}
-
 // A head, and where the list of the body stands that follows it.
 #[derive(Clone, Copy)]
 pub struct Frame {
     pub header: SegmentHeader,
     pub list: BodyList,
-}
-
-#[derive(Clone, Copy)]
-pub enum FrameAnswer {
-    Framed(Frame),
-    Refused(Refusal),
 }
 
 // One segment: its body starts 13 bytes after its own start, and the whole takes `used` bytes.
@@ -59,19 +44,13 @@ pub struct Segment {
     pub used: usize,
 }
 
-#[derive(Clone, Copy)]
-pub enum SegmentAnswer {
-    Segment(Segment),
-    Refused(Refusal),
-}
-
-fn check_end(body: &[u8]) -> Checked
-    ensures { checked_outcome result ≡ outcome_of (body_verdict SegmentType.End body.now) (body_list SegmentType.End body.now) }
+fn check_end(body: &[u8]) -> Result<BodyList, Refusal>
+    ensures { outcome result ≡ outcome_of (body_verdict SegmentType.End body.now) (body_list SegmentType.End body.now) }
 {
     if body.len() != 0 {
-        return Checked::Refused(Refusal::NonEmptyEnd);
+        return Err(Refusal::NonEmptyEnd);
     }
-    Checked::List(BodyList {
+    Ok(BodyList {
         count: 0,
         start: 0,
         len: 0,
@@ -79,8 +58,8 @@ fn check_end(body: &[u8]) -> Checked
 }
 
 // Whether a body of this kind is whole, and where its list or its data stands.
-fn check_body(kind: SegmentType, body: &[u8]) -> Checked
-    ensures { checked_outcome result ≡ outcome_of (body_verdict kind body.now) (body_list kind body.now) }
+fn check_body(kind: SegmentType, body: &[u8]) -> Result<BodyList, Refusal>
+    ensures { outcome result ≡ outcome_of (body_verdict kind body.now) (body_list kind body.now) }
 {
     match kind {
         SegmentType::Pds => check_pds(body),
@@ -88,7 +67,7 @@ fn check_body(kind: SegmentType, body: &[u8]) -> Checked
         SegmentType::Pcs => check_pcs(body),
         SegmentType::Wds => check_wds(body),
         SegmentType::End => check_end(body),
-        SegmentType::Other(_) => Checked::List(BodyList {
+        SegmentType::Other(_) => Ok(BodyList {
             count: 0,
             start: 0,
             len: body.len(),
@@ -112,56 +91,43 @@ impl SegmentBody {
     }
 
     // Reads a body of this kind; its list or data stays where it is.
-    pub fn parse(kind: SegmentType, body: &[u8]) -> BodyAnswer
-        ensures { body_outcome result ≡ outcome_of (body_verdict kind body.now) (numbers_of (body_of kind body.now), body_list kind body.now) }
+    pub fn parse(kind: SegmentType, body: &[u8]) -> Result<(SegmentBody, BodyList), Refusal>
+        ensures { outcome result ≡ outcome_of (body_verdict kind body.now) (numbers_of (body_of kind body.now), body_list kind body.now) }
     {
-        match check_body(kind, body) {
-            Checked::Refused(why) => BodyAnswer::Refused(why),
-            Checked::List(list) => BodyAnswer::Body(SegmentBody::numbers(kind, body), list),
-        }
+        let list = check_body(kind, body)?;
+        Ok((SegmentBody::numbers(kind, body), list))
     }
 }
 
 // Tests the segment at the front of `buf`.
-pub fn check_segment(buf: &[u8]) -> FrameAnswer
-    ensures { frame_outcome result ≡ outcome_of (segment_verdict buf.now) (frame_of buf.now) }
+pub fn check_segment(buf: &[u8]) -> Result<Frame, Refusal>
+    ensures { outcome result ≡ outcome_of (segment_verdict buf.now) (frame_of buf.now) }
 {
-    match SegmentHeader::parse(buf) {
-        HeaderAnswer::Refused(why) => FrameAnswer::Refused(why),
-        HeaderAnswer::Header(header) => {
-            let size = header.segment_size as usize;
-            if buf.len() - SegmentHeader::SIZE < size {
-                return FrameAnswer::Refused(Refusal::TruncatedBody);
-            }
-            let kind = SegmentType::from_raw(header.segment_type);
-            match check_body(kind, &buf[SegmentHeader::SIZE..SegmentHeader::SIZE + size]) {
-                Checked::Refused(why) => FrameAnswer::Refused(why),
-                Checked::List(list) => FrameAnswer::Framed(Frame { header, list }),
-            }
-        }
+    let header = SegmentHeader::parse(buf)?;
+    let size = header.segment_size as usize;
+    if buf.len() - SegmentHeader::SIZE < size {
+        return Err(Refusal::TruncatedBody);
     }
+    let kind = SegmentType::from(header.segment_type);
+    let list = check_body(kind, &buf[SegmentHeader::SIZE..SegmentHeader::SIZE + size])?;
+    Ok(Frame { header, list })
 }
 
 impl Segment {
     // Reads the segment at the front of `buf`; bytes after it are left alone.
-    pub fn parse(buf: &[u8]) -> SegmentAnswer
-        ensures { segment_outcome result ≡ outcome_of (segment_verdict buf.now) (segment_of buf.now) }
+    pub fn parse(buf: &[u8]) -> Result<Segment, Refusal>
+        ensures { outcome result ≡ outcome_of (segment_verdict buf.now) (segment_of buf.now) }
     {
-        match check_segment(buf) {
-            FrameAnswer::Refused(why) => SegmentAnswer::Refused(why),
-            FrameAnswer::Framed(frame) => {
-                let header = frame.header;
-                let list = frame.list;
-                let used = SegmentHeader::SIZE + header.segment_size as usize;
-                let kind = SegmentType::from_raw(header.segment_type);
-                let body = SegmentBody::numbers(kind, &buf[SegmentHeader::SIZE..used]);
-                SegmentAnswer::Segment(Segment {
-                    header,
-                    body,
-                    list,
-                    used,
-                })
-            }
-        }
+        let frame = check_segment(buf)?;
+        let header = frame.header;
+        let used = SegmentHeader::SIZE + header.segment_size as usize;
+        let kind = SegmentType::from(header.segment_type);
+        let body = SegmentBody::numbers(kind, &buf[SegmentHeader::SIZE..used]);
+        Ok(Segment {
+            header,
+            body,
+            list: frame.list,
+            used,
+        })
     }
 }

@@ -1,26 +1,17 @@
-// The records of a stream's segments as a lent mutable slice of structs, the form that 01 names. Whoever lends or fills such a slice
-// is proved as every function is. `plan_for` finds the answer, `record_at` reads one record, and `fill` stores as many as the plan says.
+// The records of a stream's segments as a lent mutable slice of structs, the form that 01 names: the reading of pgs_stream, over
+// another record.
 #![tactic(auto)]
 
-ghost use Rattle.std.specs.Prelude.{◌≡◌, ◌+◌, ◌≤◌, length, drop};
-ghost use Rattle.pgs_base.specs.Outcome.{accepted, laid, Delivered};
-ghost use Rattle.pgs_segment.specs.Header.{header_verdict};
-ghost use Rattle.pgs_segment.specs.OneSegment.{used_by};
-ghost use Rattle.pgs_stream.specs.Stream.{segment_count, stream_verdict, stream_outcome};
-ghost use Rattle.pgs_segment_list.specs.Segments.{
-  segment_records,
-  plan_verdict,
-  stored_by,
-  Planned,
-  Recorded,
-};
+ghost use Rattle.pgs_base.specs.Outcome.{outcome, Delivered};
+ghost use Rattle.pgs_stream.specs.Stream.{segment_count, stream_verdict};
+ghost use Rattle.pgs_segment_list.specs.Segments.{record_at, segment_records};
 
 use pgs_base::refusal::Refusal;
-use pgs_segment::header::{HeaderAnswer, SegmentHeader};
-use pgs_stream::stream::{StreamAnswer, count_segments};
+use pgs_segment::header::SegmentHeader;
+use pgs_stream::stream::FromHeader;
 
 // A segment's record: its place in the stream, and its head.
-#[derive(Clone, Copy)]
+#[derive(Clone, Copy, Debug, PartialEq, Eq)]
 pub struct SegmentRecord {
     pub place: usize,
     pub pts: u32,
@@ -29,108 +20,37 @@ pub struct SegmentRecord {
     pub segment_size: u16,
 }
 
-// The record of a segment, and the place after it.
-#[derive(Clone, Copy)]
-struct Placed {
-    pub segment: SegmentRecord,
-    pub next: usize,
-}
+impl FromHeader for SegmentRecord {
+    ghost from_header = { record_at };
 
-// What a call answers, and how many records it stores: none where it is refused.
-#[derive(Clone, Copy)]
-struct Plan {
-    pub answer: StreamAnswer,
-    pub stored: usize,
-}
-
-// Reads the record of the segment at a place, which is known to be whole.
-fn record_at(s: &[u8], at: usize) -> Placed
-    requires { (at + used_by (drop at s.now) ≤ length s.now) × (header_verdict (drop at s.now) ≡ accepted) }
-    ensures { Recorded at (drop at s.now) result }
-{
-    match SegmentHeader::parse(&s[at..]) {
-        HeaderAnswer::Header(header) => Placed {
-            segment: SegmentRecord {
-                place: at,
-                pts: header.pts,
-                dts: header.dts,
-                segment_type: header.segment_type,
-                segment_size: header.segment_size,
-            },
-            next: at + (SegmentHeader::SIZE + header.segment_size as usize),
-        },
-        // cannot be: the head is whole
-        HeaderAnswer::Refused(why) => Placed {
-            segment: SegmentRecord {
-                place: at,
-                pts: 0,
-                dts: 0,
-                segment_type: 0,
-                segment_size: 0,
-            },
-            next: at,
-        },
-    }
-}
-
-// Reads the stream once without storing: what the call answers where a list has this room, and how many records it stores.
-fn plan_for(s: &[u8], room: usize) -> Plan
-    ensures { Planned s.now room result }
-{
-    match count_segments(s) {
-        StreamAnswer::Refused(why) => Plan {
-            answer: StreamAnswer::Refused(why),
-            stored: 0,
-        },
-        StreamAnswer::Segments(n) => {
-            if room < n {
-                return Plan {
-                    answer: StreamAnswer::Refused(Refusal::BufferTooSmall),
-                    stored: 0,
-                };
-            }
-            Plan {
-                answer: StreamAnswer::Segments(n),
-                stored: n,
-            }
+    fn from_header(at: usize, header: SegmentHeader) -> SegmentRecord {
+        SegmentRecord {
+            place: at,
+            pts: header.pts,
+            dts: header.dts,
+            segment_type: header.segment_type,
+            segment_size: header.segment_size,
         }
     }
 }
 
-// Stores as many records as the plan says.
-fn fill(s: &[u8], list: &mut [SegmentRecord], n: usize)
-    requires { n ≡ stored_by (plan_verdict s.now (length list.old)) (segment_count s.now) }
-    ensures { list.new ≡ laid (plan_verdict s.now (length list.old)) (segment_records s.now) list.old }
-{
-    let mut i: usize = 0;
-    let mut at: usize = 0;
-    while i < n {
-        let placed = record_at(s, at);
-        list[i] = placed.segment;
-        i = i + 1;
-        at = placed.next;
-    }
-}
-
 // Reads a stream; a record for each segment fills the caller's list, from the front.
-pub fn parse_segments(s: &[u8], list: &mut [SegmentRecord]) -> StreamAnswer
-    ensures { Delivered (stream_verdict s.now) (segment_count s.now) (segment_records s.now) list.old list.new (stream_outcome result) }
+pub fn parse_segments(s: &[u8], list: &mut [SegmentRecord]) -> Result<usize, Refusal>
+    ensures { Delivered (stream_verdict s.now) (segment_count s.now) (segment_records s.now) list.old list.new (outcome result) }
 {
-    let plan = plan_for(s, list.len());
-    fill(s, list, plan.stored);
-    plan.answer
+    pgs_stream::stream::parse_segments(s, list)
 }
 
 // A list of eight records by value, and what a call that was lent it answered.
 #[derive(Clone, Copy)]
 pub struct Eight {
-    pub answer: StreamAnswer,
+    pub answer: Result<usize, Refusal>,
     pub list: [SegmentRecord; 8],
 }
 
 // The same of a list that is passed by value and handed back.
 pub fn parse_eight(s: &[u8], list: [SegmentRecord; 8]) -> Eight
-    ensures { Delivered (stream_verdict s.now) (segment_count s.now) (segment_records s.now) list result.list (stream_outcome result.answer) }
+    ensures { Delivered (stream_verdict s.now) (segment_count s.now) (segment_records s.now) list result.list (outcome result.answer) }
 {
     let mut held = list;
     let answer = parse_segments(s, &mut held);

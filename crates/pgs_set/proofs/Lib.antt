@@ -1,5 +1,5 @@
 pub mod Choices
-pub mod GroupLaws
 pub mod NumberLaws
+pub mod OpenLaws
 pub mod SetLaws
 pub mod WalkLaws

@@ -2,15 +2,15 @@
 use mathlib.Core.Path.{◌≡◌, refl, sym, ap, ◌∙◌}
 use mathlib.Core.Bool.{Bool, true, false}
 use mathlib.Core.List.{List, [], ◌∷◌, map}
-use Prim.Native.Nat.{ℕ, ◌+◌, ◌-◌, ◌≤◌, ◌<◌}
+use Prim.Native.Nat.{ℕ, ◌+◌, ◌≤◌, ◌<◌}
 use native.Mathlib.Omega.{arith}
 use native.Mathlib.Nat.{add-zero}
 use borrow.Author.Tests.{leb-true, leb-false}
 use lib.Dec.{leb}
 use lib.ListN.{length, take, drop, set, get_or, length-drop, length-map}
 use lib.Seq.{drop-drop, get_or-drop}
-use Rattle.pgs_base.specs.Outcome.{Verdict, accepted, refused, gives, refuses, outcome_of, and_then, pick, laid}
-use Rattle.pgs_base.proofs.Front.{Front, begins, stored, filled}
+use Rattle.pgs_base.specs.Outcome.{Verdict, accepted, refused, gives, refuses, outcome_of, and_then, pick}
+use Rattle.pgs_base.proofs.Front.{Front, begins, stored}
 use Rattle.pgs_base.proofs.Outcomes.{gave, gave-value, turned_down, first-accepts, second_holds}
 use Rattle.pgs_segment.specs.Header.{pts_of, header_fields}
 use Rattle.pgs_views.specs.Kinds.{type_of}
@@ -386,8 +386,9 @@ module _ (s : List ℕ) (n : ℕ) (all : n ≡ set_count s) where
             ap (map set_row) (next-set s c.finding m' e)
             ∙ ap (λ (x : List ℕ). x ∷ map set_row (drop (i + 1) (sets_of s))) row
 
-    pub stored-sets : n ≤ i → now ≡ laid accepted (set_rows s) start
-    stored-sets h = filled (rw (none (drop i (sets_of s)) (omega (arith, length-drop i (sets_of s)))) at c.front)
+    -- none is left: all are stored
+    pub stored-front : n ≤ i → Front start (set_rows s) now [] i
+    stored-front h = rw (none (drop i (sets_of s)) (omega (arith, length-drop i (sets_of s)))) at c.front
       where
         none : (ds : List DisplaySet) → length ds ≡ 0 → map set_row ds ≡ []
         none [] e = refl

@@ -2,8 +2,7 @@
 -- place just after END, PTS of the PCS) fill a caller's list", and "reads the whole stream first, so 1 to 7 anywhere come before 8 to
 -- 15".
 use Rattle.std.specs.Prelude.{ℕ, ◌+◌, Bool, true, false, List, [], ◌∷◌, map, length, get_or, ltb}
-use Rattle.pgs_base.specs.Outcome.{Verdict, accepted, refused, Outcome, gives, refuses, and_then, unless, pick}
-use Rattle.pgs_base.specs.Refusals.{number_of}
+use Rattle.pgs_base.specs.Outcome.{Verdict, accepted, refused, and_then, unless, pick}
 use Rattle.pgs_segment.specs.Header.{pts_of}
 use Rattle.pgs_segment.specs.OneSegment.{segment_type}
 use Rattle.pgs_stream.specs.Stream.{read_of, stream_verdict}
@@ -11,10 +10,7 @@ use Rattle.pgs_views.specs.declared.segment_type.SegmentType.{SegmentType}
 use Rattle.pgs_views.specs.declared.segment_type.SegmentType.TheVariants.{Pds, Ods, Pcs, Wds, End, Other}
 use Rattle.pgs_set.specs.declared.grouping.Grouping.{Grouping}
 use Rattle.pgs_set.specs.declared.grouping.Grouping.TheVariants.{Outside, Inside}
-use Rattle.pgs_set.specs.declared.grouping.GroupStep.{GroupStep}
-use Rattle.pgs_set.specs.declared.grouping.GroupStep.TheVariants as steps
-use Rattle.pgs_set.specs.declared.set.SetsAnswer.{SetsAnswer}
-use Rattle.pgs_set.specs.declared.set.SetsAnswer.TheVariants as answers
+use Rattle.pgs_set.specs.declared.set.SetRecord.{SetRecord}
 
 -- 8: "PCS in an open set"; 9, 10, 11: WDS, PDS, ODS and "no open set"; 12: "set has one"; 13: END and "no open set"; 14: "unknown
 -- kind, no open set". An open set is known by whether it has a WDS
@@ -116,17 +112,12 @@ bytes_in (x ∷ xs) = length x + bytes_in xs
 abbrev pub end_of : DisplaySet → ℕ
 end_of d = d.place + length d.opening + bytes_in d.others
 
--- the record of a set
+-- the record of a set, and as a row of a caller's list
+abbrev pub set_record : DisplaySet → SetRecord
+set_record d = record { place = d.place; end = end_of d; pts = pts_of d.opening }
+
 abbrev pub set_row : DisplaySet → List ℕ
 set_row d = d.place ∷ end_of d ∷ pts_of d.opening ∷ []
 
 abbrev pub set_rows : List ℕ → List (List ℕ)
 set_rows s = map set_row (sets_of s)
-
-abbrev pub step_outcome : GroupStep → Outcome Grouping
-step_outcome (steps.On g) = gives g
-step_outcome (steps.Refused r) = refuses (number_of r)
-
-abbrev pub sets_outcome : SetsAnswer → Outcome ℕ
-sets_outcome (answers.Sets n) = gives n
-sets_outcome (answers.Refused r) = refuses (number_of r)

@@ -1,14 +1,12 @@
 -- Where a walk over the segments of a stream stands. Private contracts cite these; those of public functions cite `Sets`
 -- and, for where a set stands, `FoundSet`.
-use Rattle.std.specs.Prelude.{ℕ, ◌+◌, ◌≤◌, ◌<◌, ◌≡◌, Bool, List, [], ◌∷◌, length, drop, get_or}
-use Rattle.pgs_base.specs.Outcome.{accepted, Outcome, gives, refuses, outcome_of}
-use Rattle.pgs_base.specs.Refusals.{number_of}
+use Rattle.std.specs.Prelude.{ℕ, ◌+◌, ◌≤◌, ◌<◌, ◌≡◌, Bool, List, length, drop, get_or}
+use Rattle.pgs_base.specs.Outcome.{accepted, Outcome, gives, outcome_of}
 use Rattle.pgs_stream.specs.Stream.{read_of, stream_verdict}
-use Rattle.pgs_set.specs.Sets.{DisplaySet, no_set, set_number, set_verdict, group_verdict, sets_from, through_end, bytes_in, set_row}
+use Rattle.pgs_set.specs.Sets.{DisplaySet, no_set, set_number, set_verdict, group_verdict, sets_from, through_end, bytes_in, set_record}
 use Rattle.pgs_set.specs.declared.grouping.Grouping.{Grouping}
 use Rattle.pgs_set.specs.declared.grouping.Grouping.TheVariants.{Outside, Inside}
-use Rattle.pgs_set.specs.declared.set.SetAnswer.{SetAnswer}
-use Rattle.pgs_set.specs.declared.set.SetAnswer.TheVariants as records
+use Rattle.pgs_set.specs.declared.set.SetRecord.{SetRecord}
 
 -- the segments from a place on
 abbrev pub pieces_at : List ℕ → ℕ → List (List ℕ)
@@ -46,11 +44,7 @@ pub record SetStands (s : List ℕ) (k r : ℕ) : Type 0 where
   pub more : r < length s
   pub found : set_at s r ≡ set_number k s
 
-abbrev pub set_outcome : SetAnswer → Outcome (List ℕ)
-set_outcome (records.Set place end pts) = gives (place ∷ end ∷ pts ∷ [])
-set_outcome (records.Refused r) = refuses (number_of r)
-
 -- finding set number k, with this answer: its record, and where its PCS stands
-pub record FoundSet (s : List ℕ) (k : ℕ) (answer : Outcome (List ℕ)) : Type 0 where
-  pub answered : answer ≡ outcome_of (set_verdict k s) (set_row (set_number k s))
-  pub stands : (place end pts : ℕ) → answer ≡ gives (place ∷ end ∷ pts ∷ []) → SetStands s k place
+pub record FoundSet (s : List ℕ) (k : ℕ) (answer : Outcome SetRecord) : Type 0 where
+  pub answered : answer ≡ outcome_of (set_verdict k s) (set_record (set_number k s))
+  pub stands : (r : SetRecord) → answer ≡ gives r → SetStands s k r.place

@@ -1,60 +1,54 @@
 // What a segment does to the display set that is open (01, module 6).
 ghost use Rattle.std.specs.Prelude.{◌≡◌};
-ghost use Rattle.pgs_base.specs.Outcome.{outcome_of};
-ghost use Rattle.pgs_set.specs.Sets.{kind_verdict, state_after, step_outcome};
+ghost use Rattle.pgs_base.specs.Outcome.{outcome, outcome_of};
+ghost use Rattle.pgs_set.specs.Sets.{kind_verdict, state_after};
 
 use pgs_base::refusal::Refusal;
 use pgs_views::segment_type::SegmentType;
 
 // Whether a set is open, and whether it has a WDS.
-#[derive(Clone, Copy)]
+// Stays an enum of its own: `Option<bool>` would name neither the open set nor the WDS, as `None` and `Some(true)`.
+#[derive(Clone, Copy, Debug, PartialEq, Eq)]
 pub enum Grouping {
     Outside,
     Inside(bool),
 }
 
-// The state after a segment, or why the segment is refused.
-#[derive(Clone, Copy)]
-pub enum GroupStep {
-    On(Grouping),
-    Refused(Refusal),
-}
-
-fn group_outside(kind: SegmentType) -> GroupStep
-    ensures { step_outcome result ≡ outcome_of (kind_verdict Grouping.Outside kind) (state_after Grouping.Outside kind) }
+fn group_outside(kind: SegmentType) -> Result<Grouping, Refusal>
+    ensures { outcome result ≡ outcome_of (kind_verdict Grouping.Outside kind) (state_after Grouping.Outside kind) }
 {
     match kind {
-        SegmentType::Pcs => GroupStep::On(Grouping::Inside(false)),
-        SegmentType::Wds => GroupStep::Refused(Refusal::WdsOutsideSet),
-        SegmentType::Pds => GroupStep::Refused(Refusal::PdsOutsideSet),
-        SegmentType::Ods => GroupStep::Refused(Refusal::OdsOutsideSet),
-        SegmentType::End => GroupStep::Refused(Refusal::EndOutsideSet),
-        SegmentType::Other(_) => GroupStep::Refused(Refusal::UnknownOutsideSet),
+        SegmentType::Pcs => Ok(Grouping::Inside(false)),
+        SegmentType::Wds => Err(Refusal::WdsOutsideSet),
+        SegmentType::Pds => Err(Refusal::PdsOutsideSet),
+        SegmentType::Ods => Err(Refusal::OdsOutsideSet),
+        SegmentType::End => Err(Refusal::EndOutsideSet),
+        SegmentType::Other(_) => Err(Refusal::UnknownOutsideSet),
     }
 }
 
-fn group_inside(windows: bool, kind: SegmentType) -> GroupStep
-    ensures { step_outcome result ≡ outcome_of (kind_verdict (Grouping.Inside windows) kind) (state_after (Grouping.Inside windows) kind) }
+fn group_inside(windows: bool, kind: SegmentType) -> Result<Grouping, Refusal>
+    ensures { outcome result ≡ outcome_of (kind_verdict (Grouping.Inside windows) kind) (state_after (Grouping.Inside windows) kind) }
 {
     match kind {
-        SegmentType::Pcs => GroupStep::Refused(Refusal::PcsInOpenSet),
+        SegmentType::Pcs => Err(Refusal::PcsInOpenSet),
         SegmentType::Wds => {
             if windows {
-                GroupStep::Refused(Refusal::SecondWds)
+                Err(Refusal::SecondWds)
             } else {
-                GroupStep::On(Grouping::Inside(true))
+                Ok(Grouping::Inside(true))
             }
         }
-        SegmentType::End => GroupStep::On(Grouping::Outside),
-        SegmentType::Pds => GroupStep::On(Grouping::Inside(windows)),
-        SegmentType::Ods => GroupStep::On(Grouping::Inside(windows)),
-        SegmentType::Other(_) => GroupStep::On(Grouping::Inside(windows)),
+        SegmentType::End => Ok(Grouping::Outside),
+        SegmentType::Pds | SegmentType::Ods | SegmentType::Other(_) => Ok(Grouping::Inside(
+            windows,
+        )),
     }
 }
 
 // Takes one more segment.
-pub fn group_segment(state: Grouping, kind: SegmentType) -> GroupStep
-    ensures { step_outcome result ≡ outcome_of (kind_verdict state kind) (state_after state kind) }
+pub fn group_segment(state: Grouping, kind: SegmentType) -> Result<Grouping, Refusal>
+    ensures { outcome result ≡ outcome_of (kind_verdict state kind) (state_after state kind) }
 {
     match state {
         Grouping::Outside => group_outside(kind),

@@ -2,4 +2,5 @@
 #![tactic(auto)]
 
 pub mod grouping;
+pub mod open_set;
 pub mod set;

@@ -20,7 +20,7 @@ use Rattle.pgs_segment.specs.Fields.{kind_byte, body_verdict, body_of, body_list
 use Rattle.pgs_segment.specs.Header.{size_of, marked}
 use Rattle.pgs_ods.specs.OdsBody.{ods_data, ods_list, head_size, flag_of}
 use Rattle.pgs_segment.specs.OneSegment.{segment_type, used_by, body_at, segment_verdict, fields_of}
-use Rattle.pgs_stream.specs.Stream.{step_verdict, before, read_first, read_of, stopped_by, stop_place, stream_verdict, joined, segment_row, rows_from, segment_rows}
+use Rattle.pgs_stream.specs.Stream.{step_verdict, before, read_first, read_of, stopped_by, stop_place, stream_verdict, joined, segment_row, head_row, records_from, records_of, segment_rows}
 use Rattle.pgs_views.specs.declared.segment_type.SegmentType.{SegmentType}
 use Rattle.pgs_views.specs.declared.segment_type.SegmentType.TheVariants as kinds
 use Rattle.pgs_segment.proofs.SegmentLaws.{has-header, accepted-head, accepted-size, accepted-body, accepted-mark}
@@ -165,7 +165,7 @@ abbrev pub body_by_row : List ℕ → List ℕ → List ℕ
 body_by_row s r = take (get_or r 4 0) (drop (get_or r 0 0 + 13) s)
 
 rows-first : (s : List ℕ) (n at : ℕ) (l : List ℕ) → drop at s ≡ l
-    → map (body_by_row s) (rows_from at (read_first n l).pieces) ≡ map body_at (read_first n l).pieces
+    → map (body_by_row s) (records_from head_row at (read_first n l).pieces) ≡ map body_at (read_first n l).pieces
 rows-first s zero at l q = refl
 rows-first s (suc n) at l q =
     go (is_accepted (step_verdict l)) refl
@@ -173,21 +173,21 @@ rows-first s (suc n) at l q =
   where
     go : (t : Bool) → is_accepted (step_verdict l) ≡ t
         → (drop (at + used_by l) s ≡ drop (used_by l) l
-        → map (body_by_row s) (rows_from (at + used_by l) (read_first n (drop (used_by l) l)).pieces) ≡ map body_at (read_first n (drop (used_by l) l)).pieces)
-        → map (body_by_row s) (rows_from at (read_first (suc n) l).pieces) ≡ map body_at (read_first (suc n) l).pieces
+        → map (body_by_row s) (records_from head_row (at + used_by l) (read_first n (drop (used_by l) l)).pieces) ≡ map body_at (read_first n (drop (used_by l) l)).pieces)
+        → map (body_by_row s) (records_from head_row at (read_first (suc n) l).pieces) ≡ map body_at (read_first (suc n) l).pieces
     go true e ih =
         let ok = first-accepts (segment_verdict l) _ (is-accepted (step_verdict l) e) in
         let head : body_by_row s (segment_row at (take (used_by l) l)) ≡ body_at (take (used_by l) l)
         = ap (λ (k : ℕ). take k (drop (at + 13) s)) (field l ok 2 11 (omega arith)) ∙ rw (← drop-drop 13 at s, q) (sym (own_body l ok)) in
         let tail = ih (rw (← drop-drop (used_by l) at s, q)) in
         rw (first_on n l e)
-        ((λ k. head k ∷ map (body_by_row s) (rows_from (at + own-length l ok k) (read_first n (drop (used_by l) l)).pieces))
+        ((λ k. head k ∷ map (body_by_row s) (records_from head_row (at + own-length l ok k) (read_first n (drop (used_by l) l)).pieces))
         ∙ ap (λ (t : List (List ℕ)). body_at (take (used_by l) l) ∷ t) tail)
     go false e ih = rw (first_stops n l e)
 
 -- each record of a stream's list leads to the body of its segment
 pub rows-lead : (s : List ℕ) → map (body_by_row s) (segment_rows s) ≡ map body_at (read_of s).pieces
-unfolding segment_rows read_of
+unfolding records_of read_of
 rows-lead s = rows-first s (length s) 0 s refl
 
 -- each piece of a list of bytes is one

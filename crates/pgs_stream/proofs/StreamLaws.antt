@@ -8,17 +8,17 @@ use borrow.Author.Tests.{lt-ltb}
 use lib.ListN.{length, take, drop, set, length-drop}
 use lib.Seq.{drop-drop, length-take-le, drop-length}
 use Rattle.pgs_base.specs.Bytes.{num}
-use Rattle.pgs_base.specs.Outcome.{accepted, refused, Outcome, gives, refuses, outcome_of, is_accepted, laid}
+use Rattle.pgs_base.specs.Outcome.{accepted, refused, Outcome, outcome_of, is_accepted}
 use Rattle.pgs_base.proofs.Bytes.{num-take}
 use Rattle.pgs_base.proofs.Lists.{to_end}
-use Rattle.pgs_base.proofs.Front.{Front, begins, stored, filled}
-use Rattle.pgs_base.proofs.Outcomes.{gave-value, turned_down, not-both, not-refused, is-accepted, first-accepts}
-use Rattle.pgs_segment.specs.Header.{header_verdict, header_fields, header_of}
+use Rattle.pgs_base.proofs.Front.{Front, begins, stored}
+use Rattle.pgs_base.proofs.Outcomes.{not-refused, is-accepted, first-accepts}
+use Rattle.pgs_segment.specs.Header.{header_fields}
 use Rattle.pgs_segment.specs.OneSegment.{segment_verdict, used_by, frame_of}
 use Rattle.pgs_segment.specs.declared.header.SegmentHeader.{SegmentHeader}
 use Rattle.pgs_segment.specs.declared.segment.Frame.{Frame}
-use Rattle.pgs_stream.specs.Stream.{Reading, step_verdict, before, read_first, read_of, stopped_by, stream_verdict, segment_count, segment_row, rows_from, segment_rows}
-use Rattle.pgs_segment.proofs.SegmentLaws.{accepted-head, accepted-size}
+use Rattle.pgs_stream.specs.Stream.{Reading, step_verdict, before, read_first, read_of, stopped_by, stream_verdict, segment_count, records_from, records_of}
+use Rattle.pgs_segment.proofs.SegmentLaws.{accepted-size}
 
 -- a segment that is accepted lies within the list
 pub step-within : (l : List ℕ) → step_verdict l ≡ accepted → used_by l ≤ length l
@@ -36,16 +36,6 @@ pub frame_at : (s : List ℕ) (at : ℕ) {o : Outcome Frame}
     → o ≡ outcome_of (segment_verdict (take (length s - at) (drop at s))) (frame_of (take (length s - at) (drop at s)))
     → o ≡ outcome_of (segment_verdict (drop at s)) (frame_of (drop at s))
 frame_at s at e = e ∙ ap (λ (l : List ℕ). outcome_of (segment_verdict l) (frame_of l)) (to_end at s)
-
--- the head of the segment at a place, as the code reads it: what is lent for that, too, goes to the end of the stream
-module _ (s : List ℕ) (at : ℕ) where
-  pub head_of : {h : SegmentHeader} → gives h ≡ header_of (take (length s - at) (drop at s)) → h ≡ header_fields (drop at s)
-  head_of e = gave-value (header_verdict (drop at s)) (header_fields (drop at s)) (e ∙ ap header_of (to_end at s))
-
-  pub no-head : {k : ℕ} → step_verdict (drop at s) ≡ accepted → refuses k ≡ header_of (take (length s - at) (drop at s)) → ⊥
-  no-head ok e =
-      not-both (accepted-head (drop at s) (first-accepts (segment_verdict (drop at s)) _ ok))
-      (turned_down (header_verdict (drop at s)) (header_fields (drop at s)) (e ∙ ap header_of (to_end at s)))
 
 -- enough fuel is enough
 same-fuel : (n m : ℕ) (l : List ℕ) → length l ≤ n → length l ≤ m → read_first n l ≡ read_first m l
@@ -125,34 +115,39 @@ module _ (s : List ℕ) where
         = ap (λ (l : List ℕ). length (read_of l).pieces) (ends h) ∙ ap (λ (x : Reading). length x.pieces) (read-stops [] refl) in
         omega (arith, c.count)
 
+pub records-length : {A : Type 0} (made : ℕ → SegmentHeader → A) (at : ℕ) (xs : List (List ℕ)) → length (records_from made at xs) ≡ length xs
+records-length made at [] = refl
+records-length made at (x ∷ xs) = ap suc (records-length made (at + length x) xs)
+
 -- as many records as segments
-pub rows-length : (at : ℕ) (xs : List (List ℕ)) → length (rows_from at xs) ≡ length xs
-rows-length at [] = refl
-rows-length at (x ∷ xs) = ap suc (rows-length (at + length x) xs)
+pub segment-records : {A : Type 0} (made : ℕ → SegmentHeader → A) (s : List ℕ) → length (records_of made s) ≡ segment_count s
+unfolding records_of
+segment-records made s = records-length made 0 (read_of s).pieces
 
-pub segment-rows : (s : List ℕ) → length (segment_rows s) ≡ segment_count s
-unfolding segment_rows
-segment-rows s = rows-length 0 (read_of s).pieces
-
--- a segment's record comes from its head, whatever follows
-row_of : (at : ℕ) (l : List ℕ) → step_verdict l ≡ accepted → segment_row at (take (used_by l) l) ≡ segment_row at l
-row_of at l e =
+-- a segment's head is the same, whatever follows it
+own-head : (l : List ℕ) → step_verdict l ≡ accepted → header_fields (take (used_by l) l) ≡ header_fields l
+own-head l e =
     let w = step-within l e in
     let field : (k p : ℕ) → p + k ≤ 13 → num k p (take (used_by l) l) ≡ num k p l = λ k p h. num-take k p (used_by l) l (omega arith) w in
-    λ j. at ∷ field 4 2 (omega arith) j ∷ field 4 6 (omega arith) j ∷ field 1 10 (omega arith) j ∷ field 2 11 (omega arith) j ∷ []
+    λ j. record {
+      pts = field 4 2 (omega arith) j;
+      dts = field 4 6 (omega arith) j;
+      segment_type = field 1 10 (omega arith) j;
+      segment_size = field 2 11 (omega arith) j;
+    }
 
 -- i of n records are stored, and the next segment stands at place `at` of the stream s
-pub record Storing (s : List ℕ) (n : ℕ) (start now : List (List ℕ)) (i at : ℕ) : Type 0 where
+pub record Storing {A : Type 0} (made : ℕ → SegmentHeader → A) (s : List ℕ) (n : ℕ) (start now : List A) (i at : ℕ) : Type 0 where
   pub inside : at ≤ length s
   pub count : i + length (read_of (drop at s)).pieces ≡ n
-  pub front : Front start (segment_rows s) now (rows_from at (read_of (drop at s)).pieces) i
+  pub front : Front start (records_of made s) now (records_from made at (read_of (drop at s)).pieces) i
 
-module _ (s : List ℕ) (n : ℕ) where
-  pub storing : (start : List (List ℕ)) → n ≡ segment_count s → Storing s n start start 0 0
-  unfolding segment_rows
-  storing start e = record { inside = omega arith; count = omega (arith, e); front = begins start (rows_from 0 (read_of s).pieces) }
+module _ {A : Type 0} (made : ℕ → SegmentHeader → A) (s : List ℕ) (n : ℕ) where
+  pub storing : (start : List A) → n ≡ segment_count s → Storing made s n start start 0 0
+  unfolding records_of
+  storing start e = record { inside = omega arith; count = omega (arith, e); front = begins start (records_from made 0 (read_of s).pieces) }
 
-  module _ {start now : List (List ℕ)} {i at : ℕ} (c : Storing s n start now i at) where
+  module _ {start now : List A} {i at : ℕ} (c : Storing made s n start now i at) where
     -- one is left: a segment is accepted here
     pub next-accepted : i < n → step_verdict (drop at s) ≡ accepted
     next-accepted h =
@@ -163,8 +158,8 @@ module _ (s : List ℕ) (n : ℕ) where
     next-within h = omega (arith, step-within (drop at s) (next-accepted h), length-drop at s, c.inside)
 
     -- its record is stored
-    pub stores-on : i < n → n ≤ length start → (a : List ℕ) → a ≡ segment_row at (drop at s)
-        → Storing s n start (set now i a) (i + 1) (at + used_by (drop at s))
+    pub stores-on : i < n → n ≤ length start → (a : A) → a ≡ made at (header_fields (drop at s))
+        → Storing made s n start (set now i a) (i + 1) (at + used_by (drop at s))
     stores-on h room a e =
         record {
           inside = next-within h;
@@ -178,21 +173,22 @@ module _ (s : List ℕ) (n : ℕ) where
         r : read_of (drop at s) ≡ before (take (used_by (drop at s)) (drop at s)) (read_of (drop (used_by (drop at s)) (drop at s)))
         r = read-on (drop at s) ok
 
-        rows : rows_from at (read_of (drop at s)).pieces
-            ≡ segment_row at (drop at s) ∷ rows_from (at + used_by (drop at s)) (read_of (drop (used_by (drop at s)) (drop at s))).pieces
-        rows =
-            ap (λ (x : Reading). rows_from at x.pieces) r
-            ∙ (λ j. row_of at (drop at s) ok j
-            ∷ rows_from (at + length-take-le (used_by (drop at s)) (drop at s) (step-within (drop at s) ok) j)
+        records : records_from made at (read_of (drop at s)).pieces
+            ≡ made at (header_fields (drop at s)) ∷ records_from made (at + used_by (drop at s)) (read_of (drop (used_by (drop at s)) (drop at s))).pieces
+        records =
+            ap (λ (x : Reading). records_from made at x.pieces) r
+            ∙ (λ j. made at (own-head (drop at s) ok j)
+            ∷ records_from made (at + length-take-le (used_by (drop at s)) (drop at s) (step-within (drop at s) ok) j)
             (read_of (drop (used_by (drop at s)) (drop at s))).pieces)
 
-        next : Front start (segment_rows s) now (segment_row at (drop at s) ∷ rows_from (at + used_by (drop at s)) (read_of (drop (used_by (drop at s)) (drop at s))).pieces) i
-        next = rw rows at c.front
+        next : Front start (records_of made s) now
+            (made at (header_fields (drop at s)) ∷ records_from made (at + used_by (drop at s)) (read_of (drop (used_by (drop at s)) (drop at s))).pieces) i
+        next = rw records at c.front
 
-    -- all are stored
-    pub stored-segments : n ≤ i → now ≡ laid accepted (segment_rows s) start
-    stored-segments h = filled (rw (none (read_of (drop at s)).pieces (omega (arith, c.count))) at c.front)
+    -- none is left: all are stored
+    pub stored-front : n ≤ i → Front start (records_of made s) now [] i
+    stored-front h = rw (none (read_of (drop at s)).pieces (omega (arith, c.count))) at c.front
       where
-        none : (xs : List (List ℕ)) → length xs ≡ 0 → rows_from at xs ≡ []
+        none : (xs : List (List ℕ)) → length xs ≡ 0 → records_from made at xs ≡ []
         none [] e = refl
         none (x ∷ xs) e = absurd (omega arith)

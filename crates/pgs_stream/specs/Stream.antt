@@ -1,14 +1,11 @@
 -- A stream of segments. 01, module 4: "The stream answer is a count and a caller's list of segment records, filled from the front
 -- (place, PTS, DTS, kind, body length). An empty stream has none."
 use Rattle.std.specs.Prelude.{ℕ, zero, suc, ◌+◌, ◌-◌, List, [], ◌∷◌, ◌++◌, map, length, take, drop, ltb}
-use Rattle.pgs_base.specs.Outcome.{Verdict, accepted, Outcome, gives, refuses, and_then, unless, pick, is_accepted}
-use Rattle.pgs_base.specs.Refusals.{number_of}
+use Rattle.pgs_base.specs.Outcome.{Verdict, accepted, and_then, unless, pick, is_accepted}
 use Rattle.pgs_segment.specs.Fields.{SegmentFields}
 use Rattle.pgs_segment.specs.Header.{header_fields}
 use Rattle.pgs_segment.specs.OneSegment.{segment_verdict, used_by, fields_of}
 use Rattle.pgs_segment.specs.declared.header.SegmentHeader.{SegmentHeader}
-use Rattle.pgs_stream.specs.declared.stream.StreamAnswer.{StreamAnswer}
-use Rattle.pgs_stream.specs.declared.stream.StreamAnswer.TheVariants.{Segments, Refused}
 
 -- a stream that was read from the front: the bytes of each segment, tail included, and the rest, which is empty or begins with a
 -- segment that is refused
@@ -67,14 +64,15 @@ head_row at h = at ∷ h.pts ∷ h.dts ∷ h.segment_type ∷ h.segment_size ∷
 abbrev pub segment_row : ℕ → List ℕ → List ℕ
 segment_row at x = head_row at (header_fields x)
 
--- the records of segments that stand one after another from a place on
-abbrev pub rows_from : ℕ → List (List ℕ) → List (List ℕ)
-rows_from at [] = []
-rows_from at (x ∷ xs) = segment_row at x ∷ rows_from (at + length x) xs
+-- the records of segments that stand one after another from a place on, where `made` is the record of a segment with a head at a place
+abbrev pub records_from : {A : Type 0} → (ℕ → SegmentHeader → A) → ℕ → List (List ℕ) → List A
+records_from made at [] = []
+records_from made at (x ∷ xs) = made at (header_fields x) ∷ records_from made (at + length x) xs
 
-unfoldable pub segment_rows : List ℕ → List (List ℕ)
-segment_rows s = rows_from 0 (read_of s).pieces
+-- the records of all segments of a stream
+unfoldable pub records_of : {A : Type 0} → (ℕ → SegmentHeader → A) → List ℕ → List A
+records_of made s = records_from made 0 (read_of s).pieces
 
-abbrev pub stream_outcome : StreamAnswer → Outcome ℕ
-stream_outcome (Segments n) = gives n
-stream_outcome (Refused r) = refuses (number_of r)
+-- as rows of cells
+abbrev pub segment_rows : List ℕ → List (List ℕ)
+segment_rows s = records_of head_row s

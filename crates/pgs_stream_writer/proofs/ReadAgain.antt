@@ -1,4 +1,6 @@
 -- A list that a reading filled and a writer gets: it stands for what was read. Assumes nothing.
+use Rattle.pgs_pcs.specs.declared.pcs.CompositionObjectCrop.{CompositionObjectCrop}
+use Rattle.std.specs.Prelude.{Option, None, Some}
 use mathlib.Core.Path.{◌≡◌, refl, sym, ap, ◌∙◌}
 use mathlib.Core.Bool.{Bool, true, false}
 use mathlib.Core.List.{List, [], ◌∷◌, ◌++◌, map}
@@ -24,8 +26,6 @@ use Rattle.pgs_pds.specs.PdsBody.{entry_of, entry_size, entry_row, entry_count, 
 use Rattle.pgs_wds.specs.WdsBody.{window_of, window_size, window_row, window_count, windows_of, window_rows, wds_verdict}
 use Rattle.pgs_ods.specs.declared.ods.Ods.{Ods}
 use Rattle.pgs_pcs.specs.declared.pcs.CompositionObject.{CompositionObject}
-use Rattle.pgs_pcs.specs.declared.pcs.Cropping.{Cropping}
-use Rattle.pgs_pcs.specs.declared.pcs.Cropping.TheVariants.{Uncropped, Cropped}
 use Rattle.pgs_pcs.specs.declared.pcs.Pcs.{Pcs}
 use Rattle.pgs_pds.specs.declared.pds.PaletteEntry.{PaletteEntry}
 use Rattle.pgs_pds.specs.declared.pds.Pds.{Pds}
@@ -84,7 +84,7 @@ pub entry-back : (e : PaletteEntry) → entry_from (entry_row e) ≡ e
 entry-back e = refl
 
 pub placement-back : (p : CompositionObject) → placement_from (placement_row p) ≡ p
-placement-back p = ap (λ (c : Cropping). record {
+placement-back p = ap (λ (c : Option CompositionObjectCrop). record {
   object_id = p.object_id;
   window_id = p.window_id;
   object_cropped_flag = p.object_cropped_flag;
@@ -98,9 +98,9 @@ marks-fit : (ps : List CompositionObject) → each mark_fits (map placement_row 
 marks-fit [] = refl
 marks-fit (p ∷ ps) = simp (one p.cropping refl) (marks-fit ps)
   where
-    one : (c : Cropping) → p.cropping ≡ c → mark_fits (placement_row p) ≡ true
-    one Uncropped e = rw e
-    one (Cropped c) e = rw e
+    one : (c : Option CompositionObjectCrop) → p.cropping ≡ c → mark_fits (placement_row p) ≡ true
+    one None e = rw e
+    one (Some c) e = rw e
 
 pub marked : (p d : ℕ) (n : Pcs) (ps : List CompositionObject) {rows : List (List ℕ)} → rows ≡ map placement_row ps
     → pcs_rows_writable p d n rows ≡ writable (pcs_segment p d n rows)

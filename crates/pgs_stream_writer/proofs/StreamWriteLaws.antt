@@ -1,27 +1,27 @@
 -- The loop that performs a list of writes: performing what is left from here ends where performing all ends. Assumes nothing.
+use Rattle.std.specs.Prelude.{Result, Ok, Err}
+use Rattle.pgs_base.specs.declared.refusal.Refusal.{Refusal}
 use mathlib.Core.Path.{◌≡◌, refl, sym, ap, ◌∙◌}
 use mathlib.Core.List.{List, [], ◌∷◌, ◌++◌, map, append-nil}
-use Prim.Native.Nat.{ℕ, suc, ◌+◌, ◌-◌, ◌≤◌, ◌<◌}
+use Prim.Native.Nat.{ℕ, suc, ◌+◌, ◌-◌, ◌≤◌, ◌<◌, min}
 use native.Mathlib.Omega.{arith}
 use borrow.Author.Tests.{leb-true}
 use lib.Dec.{leb}
 use lib.ListN.{length, take, drop, length-append, length-drop, length-map, drop_of_length-le}
-use lib.Seq.{drop-drop, length-take-le, take_all}
+use lib.Seq.{drop-drop, length-take-le}
+use Rattle.std.proofs.lemmas.List.{take_min}
 use Rattle.pgs_base.proofs.Lists.{to_end}
 use Rattle.pgs_base.proofs.Outcomes.{second_holds, holds, first-accepts}
-use Rattle.pgs_base.specs.Outcome.{Verdict, accepted, refused, Outcome, gives, refuses, outcome_of, needing, laid, Delivered}
+use Rattle.pgs_base.specs.Outcome.{Verdict, accepted, refused, Outcome, gives, refuses, outcome, outcome_of, needing, laid, Delivered}
 use Rattle.pgs_stream.proofs.ReadingLaws.{own-fields}
 use Rattle.pgs_stream.proofs.StreamLaws.{read-on, read-stops, step-within}
 use Rattle.pgs_segment.specs.Fields.{SegmentFields}
 use Rattle.pgs_segment.specs.OneSegment.{segment_verdict, used_by, fields_of}
 use Rattle.pgs_stream.specs.Stream.{Reading, before, step_verdict, read_of, stream_fields, segment_count, stream_verdict}
-use Rattle.pgs_writer_base.specs.Answers.{write_outcome, bytes_written, writes_accepted}
 use Rattle.pgs_encoding.specs.Encode.{encode}
 use Rattle.pgs_stream_writer.specs.StreamWrites.{stream_writes, accepted_in, writes_done, output_after}
 use Rattle.pgs_encoding.specs.Writable.{write_verdict}
 use Rattle.pgs_encoding.specs.Writes.{Written, write_into, moved_by, after, run}
-use Rattle.pgs_writer_base.specs.declared.head.WriteAnswer.{WriteAnswer}
-use Rattle.pgs_writer_base.specs.declared.head.WriteAnswer.TheVariants as answers
 
 -- i of n writes are done: `done` were accepted, the next segment stands at `from` and is written from `at` on
 pub record Performing (s : List ℕ) (n : ℕ) (start now : List ℕ) (i from at done : ℕ) : Type 0 where
@@ -65,23 +65,37 @@ module _ (s : List ℕ) (n : ℕ) (start : List ℕ) where
         let p = sym (sym (ap (λ (w : Written). w.position) r) ∙ c.position) in
         ((λ j. (d j, p j)), sym (ap (λ (w : Written). w.output) r) ∙ c.output)
 
+-- how many bytes a write took, 0 where it was refused
+abbrev pub bytes_written : Result ℕ Refusal → ℕ
+bytes_written (Ok n) = n
+bytes_written (Err r) = 0
+
+-- 1 where it was accepted
+abbrev pub writes_accepted : Result ℕ Refusal → ℕ
+writes_accepted (Ok n) = 1
+writes_accepted (Err r) = 0
+
+pub none-written : (a : Result ℕ Refusal) → ((n : ℕ) → a ≡ Ok n → ⊥) → (bytes_written a ≡ 0) × (writes_accepted a ≡ 0)
+none-written (Ok n) h = absurd (h n refl)
+none-written (Err r) h = (refl, refl)
+
 -- what an answer says of the write's verdict
 abbrev counted : Verdict → ℕ
 counted accepted = 1
 counted (refused k) = 0
 
 module _ (n : ℕ) where
-  answer-moves : (a : WriteAnswer) (v : Verdict) → write_outcome a ≡ outcome_of v n → bytes_written a ≡ moved_by v n
-  answer-moves (answers.Written k) accepted e = cc
-  answer-moves (answers.Written k) (refused j) e = cc
-  answer-moves (answers.Refused r) accepted e = cc
-  answer-moves (answers.Refused r) (refused j) e = refl
+  answer-moves : (a : Result ℕ Refusal) (v : Verdict) → outcome a ≡ outcome_of v n → bytes_written a ≡ moved_by v n
+  answer-moves (Ok k) accepted e = cc
+  answer-moves (Ok k) (refused j) e = cc
+  answer-moves (Err r) accepted e = cc
+  answer-moves (Err r) (refused j) e = refl
 
-  answer-counts : (a : WriteAnswer) (v : Verdict) → write_outcome a ≡ outcome_of v n → writes_accepted a ≡ counted v
-  answer-counts (answers.Written k) accepted e = refl
-  answer-counts (answers.Written k) (refused j) e = cc
-  answer-counts (answers.Refused r) accepted e = cc
-  answer-counts (answers.Refused r) (refused j) e = refl
+  answer-counts : (a : Result ℕ Refusal) (v : Verdict) → outcome a ≡ outcome_of v n → writes_accepted a ≡ counted v
+  answer-counts (Ok k) accepted e = refl
+  answer-counts (Ok k) (refused j) e = cc
+  answer-counts (Err r) accepted e = cc
+  answer-counts (Err r) (refused j) e = refl
 
 accepted-first : (v : Verdict) (vs : List Verdict) → accepted_in (v ∷ vs) ≡ counted v + accepted_in vs
 accepted-first accepted vs = omega arith
@@ -143,8 +157,8 @@ module _ (s : List ℕ) (n : ℕ) (start : List ℕ) {now : List ℕ} {i from at
   rest-left = let k : n - i ≡ suc (n - (i + 1)) = omega arith in λ j. take (k j) (fields-left j)
 
   -- the write of this segment
-  module _ (answer : WriteAnswer) {ys : List ℕ}
-      (d : Delivered (write_verdict (fields_of (drop from s))) (length (encode (fields_of (drop from s)))) (encode (fields_of (drop from s))) (drop at now) ys (write_outcome answer))
+  module _ (answer : Result ℕ Refusal) {ys : List ℕ}
+      (d : Delivered (write_verdict (fields_of (drop from s))) (length (encode (fields_of (drop from s)))) (encode (fields_of (drop from s))) (drop at now) ys (outcome answer))
     where
       moves : bytes_written answer ≡ moved_by (write_into (fields_of (drop from s)) (drop at now)) (length (encode (fields_of (drop from s))))
       moves = answer-moves (length (encode (fields_of (drop from s)))) answer (write_into (fields_of (drop from s)) (drop at now)) d.answered
@@ -176,9 +190,9 @@ module _ (s : List ℕ) (n : ℕ) (start : List ℕ) {now : List ℕ} {i from at
       pub counts-one : writes_accepted answer ≤ 1
       counts-one = at_most answer
         where
-          at_most : (a : WriteAnswer) → writes_accepted a ≤ 1
-          at_most (answers.Written k) = omega arith
-          at_most (answers.Refused r) = omega arith
+          at_most : (a : Result ℕ Refusal) → writes_accepted a ≤ 1
+          at_most (Ok k) = omega arith
+          at_most (Err r) = omega arith
 
       pub performs-on : Performing s n start (take at now ++ ys) (i + 1) (from + used_by (drop from s)) (at + bytes_written answer) (done + writes_accepted answer)
       performs-on =
@@ -217,7 +231,7 @@ module _ (n : ℕ) (s o : List ℕ) where
   refused-writes e = rw e (refl, refl)
 
   -- more writes than segments are all of them
-  pub all-writes : {m : ℕ} → m ≡ segment_count s → m ≤ n → take m (stream_fields s) ≡ take n (stream_fields s)
-  all-writes {m} e h =
-      let q = length-map (read_of s).pieces fields_of in
-      take_all m (stream_fields s) (omega arith) ∙ sym (take_all n (stream_fields s) (omega arith))
+  pub all-writes : {k m : ℕ} → k ≡ segment_count s → m ≡ min n k → take m (stream_fields s) ≡ take n (stream_fields s)
+  all-writes {k} {m} q e =
+      let count : k ≡ length (stream_fields s) = q ∙ sym (length-map (read_of s).pieces fields_of) in
+      ap (λ (j : ℕ). take j (stream_fields s)) (e ∙ ap (min n) count) ∙ take_min n (stream_fields s)

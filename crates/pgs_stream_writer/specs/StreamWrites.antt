@@ -1,12 +1,9 @@
 -- The list of writes of a stream's segments, as a call performs it. Demand 3: "take any list of writes of such a stream's
 -- segments, in turn from the first and as far as one likes, refused ones included, into one output of any length".
 use Rattle.std.specs.Prelude.{ℕ, suc, List, [], ◌∷◌, take}
-use Rattle.pgs_base.specs.Outcome.{Verdict, accepted, refused, Outcome, gives, refuses}
-use Rattle.pgs_base.specs.Refusals.{number_of}
+use Rattle.pgs_base.specs.Outcome.{Verdict, accepted, refused}
 use Rattle.pgs_stream.specs.Stream.{stream_fields}
 use Rattle.pgs_encoding.specs.Writes.{Written, run}
-use Rattle.pgs_stream_writer.specs.declared.stream.WritesAnswer.{WritesAnswer}
-use Rattle.pgs_stream_writer.specs.declared.stream.WritesAnswer.TheVariants.{Writes, Refused}
 
 -- the writes of the first n segments of a stream s into the output o, or of all where there are fewer
 abbrev pub stream_writes : ℕ → List ℕ → List ℕ → Written
@@ -26,7 +23,3 @@ writes_done w = (accepted_in w.answers, w.position)
 abbrev pub output_after : Verdict → Written → List ℕ → List ℕ
 output_after accepted w o = w.output
 output_after (refused k) w o = o
-
-abbrev pub writes_outcome : WritesAnswer → Outcome (ℕ × ℕ)
-writes_outcome (Writes n k) = gives (n, k)
-writes_outcome (Refused r) = refuses (number_of r)

@@ -6,110 +6,100 @@ ghost use Rattle.pgs_segment.specs.OneSegment.{segment_verdict, fields_of};
 ghost use Rattle.pgs_writer_base.specs.Answers.{Wrote};
 ghost use Rattle.pgs_writer_base.specs.Kinds.{segment_with};
 
-use pgs_ods::ods::{Ods, OdsAnswer};
-use pgs_pcs::pcs::{Pcs, PcsAnswer};
-use pgs_pds::pds::{Pds, PdsAnswer};
-use pgs_segment::header::{HeaderAnswer, SegmentHeader};
+use pgs_base::refusal::Refusal;
+use pgs_ods::ods::Ods;
+use pgs_pcs::pcs::Pcs;
+use pgs_pds::pds::Pds;
+use pgs_segment::header::SegmentHeader;
 use pgs_views::segment_type::SegmentType;
-use pgs_wds::wds::{Wds, WdsAnswer};
+use pgs_wds::wds::Wds;
 use pgs_writer::end::encode_end;
 use pgs_writer::ods::encode_ods;
 use pgs_writer::other::encode_other;
-use pgs_writer_base::head::WriteAnswer;
+use pgs_writer_base::head::Timestamps;
 use pgs_writer_lists::pds::encode_pds;
 use pgs_writer_lists::wds::encode_wds;
 use pgs_writer_pcs::pcs::encode_pcs;
 
-// Room for all placements and windows that a count of one byte can name, and for all entries of a body of 65,535 bytes.
-const PLACEMENTS: usize = 255;
-
-const WINDOWS: usize = 255;
+// Room for all placements or windows that a count of one byte can name, and for all entries of a body of 65,535 bytes.
+const COUNTED: usize = 255;
 
 const ENTRIES: usize = 13106;
 
-// A PCS of the body, which is known to be whole.
-fn rewrite_pcs(pts: u32, dts: u32, body: &[u8], out: &mut [u8]) -> WriteAnswer
+// A PCS of the body, which is known to be whole: reading it is never refused.
+// Stays three functions: one for all kinds would need a trait with a record type, its room, a reader and a writer, whose impls are no
+// shorter than these bodies.
+fn rewrite_pcs(times: Timestamps, body: &[u8], out: &mut [u8]) -> Result<usize, Refusal>
     requires { body_verdict SegmentType.Pcs body.now ≡ accepted }
-    ensures { Wrote (segment_with pts dts SegmentType.Pcs body.now) out.old out.new result }
+    ensures { Wrote (segment_with times.pts times.dts SegmentType.Pcs body.now) out.old out.new result }
 {
-    let mut placements = [[0u16; 10]; PLACEMENTS];
-    match Pcs::parse(body, &mut placements) {
-        // cannot be: the body is whole
-        PcsAnswer::Refused(why) => WriteAnswer::Refused(why),
-        PcsAnswer::Placements(pcs, n) => encode_pcs(pts, dts, pcs, &placements[..n], out),
-    }
+    let mut placements = [[0u16; 10]; COUNTED];
+    let (pcs, n) = Pcs::parse(body, &mut placements)?;
+    encode_pcs(times, pcs, &placements[..n], out)
 }
 
 // A WDS of such a body.
-fn rewrite_wds(pts: u32, dts: u32, body: &[u8], out: &mut [u8]) -> WriteAnswer
+fn rewrite_wds(times: Timestamps, body: &[u8], out: &mut [u8]) -> Result<usize, Refusal>
     requires { body_verdict SegmentType.Wds body.now ≡ accepted }
-    ensures { Wrote (segment_with pts dts SegmentType.Wds body.now) out.old out.new result }
+    ensures { Wrote (segment_with times.pts times.dts SegmentType.Wds body.now) out.old out.new result }
 {
-    let mut windows = [[0u16; 5]; WINDOWS];
-    match Wds::parse(body, &mut windows) {
-        // cannot be: the body is whole
-        WdsAnswer::Refused(why) => WriteAnswer::Refused(why),
-        WdsAnswer::Windows(n) => encode_wds(pts, dts, &windows[..n], out),
-    }
+    let mut windows = [[0u16; 5]; COUNTED];
+    let n = Wds::parse(body, &mut windows)?;
+    encode_wds(times, &windows[..n], out)
 }
 
 // A PDS of such a body.
-fn rewrite_pds(pts: u32, dts: u32, body: &[u8], out: &mut [u8]) -> WriteAnswer
+fn rewrite_pds(times: Timestamps, body: &[u8], out: &mut [u8]) -> Result<usize, Refusal>
     requires body_value { body_verdict SegmentType.Pds body.now ≡ accepted }
     requires body_len_bound { length body.now ≤ 65535 }
-    ensures { Wrote (segment_with pts dts SegmentType.Pds body.now) out.old out.new result }
+    ensures { Wrote (segment_with times.pts times.dts SegmentType.Pds body.now) out.old out.new result }
 {
     let mut entries = [[0u8; 5]; ENTRIES];
-    match Pds::parse(body, &mut entries) {
-        // cannot be: the body is whole
-        PdsAnswer::Refused(why) => WriteAnswer::Refused(why),
-        PdsAnswer::Entries(pds, n) => encode_pds(pts, dts, pds, &entries[..n], out),
-    }
+    let (pds, n) = Pds::parse(body, &mut entries)?;
+    encode_pds(times, pds, &entries[..n], out)
 }
 
 // An ODS of such a body.
-fn rewrite_ods(pts: u32, dts: u32, body: &[u8], out: &mut [u8]) -> WriteAnswer
+fn rewrite_ods(times: Timestamps, body: &[u8], out: &mut [u8]) -> Result<usize, Refusal>
     requires { body_verdict SegmentType.Ods body.now ≡ accepted }
-    ensures { Wrote (segment_with pts dts SegmentType.Ods body.now) out.old out.new result }
+    ensures { Wrote (segment_with times.pts times.dts SegmentType.Ods body.now) out.old out.new result }
 {
-    match Ods::parse(body) {
-        // cannot be: the body is whole
-        OdsAnswer::Refused(why) => WriteAnswer::Refused(why),
-        OdsAnswer::Fragment(ods, data) => {
-            let start = data.start;
-            encode_ods(pts, dts, ods, &body[start..], out)
-        }
-    }
+    let (ods, data) = Ods::parse(body)?;
+    encode_ods(times, ods, &body[data.start..], out)
 }
 
 // A segment of the kind, with such a body.
-fn rewrite_body(pts: u32, dts: u32, kind: SegmentType, body: &[u8], out: &mut [u8]) -> WriteAnswer
+fn rewrite_body(
+    times: Timestamps,
+    kind: SegmentType,
+    body: &[u8],
+    out: &mut [u8],
+) -> Result<usize, Refusal>
     requires body_value { body_verdict kind body.now ≡ accepted }
     requires body_len_bound { length body.now ≤ 65535 }
-    ensures { Wrote (segment_with pts dts kind body.now) out.old out.new result }
+    ensures { Wrote (segment_with times.pts times.dts kind body.now) out.old out.new result }
 {
     match kind {
-        SegmentType::Pds => rewrite_pds(pts, dts, body, out),
-        SegmentType::Ods => rewrite_ods(pts, dts, body, out),
-        SegmentType::Pcs => rewrite_pcs(pts, dts, body, out),
-        SegmentType::Wds => rewrite_wds(pts, dts, body, out),
-        SegmentType::End => encode_end(pts, dts, out),
-        SegmentType::Other(v) => encode_other(pts, dts, v, body, out),
+        SegmentType::Pds => rewrite_pds(times, body, out),
+        SegmentType::Ods => rewrite_ods(times, body, out),
+        SegmentType::Pcs => rewrite_pcs(times, body, out),
+        SegmentType::Wds => rewrite_wds(times, body, out),
+        SegmentType::End => encode_end(times, out),
+        SegmentType::Other(v) => encode_other(times, v, body, out),
     }
 }
 
 // Writes the segment at the front of `l`, which is known to be accepted.
-pub(crate) fn rewrite_segment(l: &[u8], out: &mut [u8]) -> WriteAnswer
+pub(crate) fn rewrite_segment(l: &[u8], out: &mut [u8]) -> Result<usize, Refusal>
     requires { segment_verdict l.now ≡ accepted }
     ensures { Wrote (fields_of l.now) out.old out.new result }
 {
-    match SegmentHeader::parse(l) {
-        // cannot be: the segment was accepted
-        HeaderAnswer::Refused(why) => WriteAnswer::Refused(why),
-        HeaderAnswer::Header(head) => {
-            let end = SegmentHeader::SIZE + head.segment_size as usize;
-            let kind = SegmentType::from_raw(head.segment_type);
-            rewrite_body(head.pts, head.dts, kind, &l[SegmentHeader::SIZE..end], out)
-        }
-    }
+    let head = SegmentHeader::parse(l)?;
+    let times = Timestamps {
+        pts: head.pts,
+        dts: head.dts,
+    };
+    let end = SegmentHeader::SIZE + head.segment_size as usize;
+    let kind = SegmentType::from(head.segment_type);
+    rewrite_body(times, kind, &l[SegmentHeader::SIZE..end], out)
 }

@@ -2,7 +2,7 @@
 ghost use Rattle.std.specs.Prelude.{◌≡◌};
 ghost use Rattle.pgs_views.specs.States.{state_of, raw_state};
 
-#[derive(Clone, Copy)]
+#[derive(Clone, Copy, Debug, PartialEq, Eq)]
 pub enum CompositionState {
     Normal,
     AcquisitionPoint,
@@ -10,10 +10,10 @@ pub enum CompositionState {
     Other(u8),
 }
 
-impl CompositionState {
-    pub fn from_raw(v: u8) -> Self
-        ensures { result ≡ state_of v }
-    {
+impl From<u8> for CompositionState {
+    ghost from_gives = { λ v state. state ≡ state_of v };
+
+    fn from(v: u8) -> Self {
         match v {
             0x00 => CompositionState::Normal,
             0x40 => CompositionState::AcquisitionPoint,
@@ -21,11 +21,13 @@ impl CompositionState {
             _ => CompositionState::Other(v),
         }
     }
+}
 
-    pub fn as_raw(self) -> u8
-        ensures { result ≡ raw_state self }
-    {
-        match self {
+impl From<CompositionState> for u8 {
+    ghost from_gives = { λ state v. v ≡ raw_state state };
+
+    fn from(state: CompositionState) -> Self {
+        match state {
             CompositionState::Normal => 0x00,
             CompositionState::AcquisitionPoint => 0x40,
             CompositionState::EpochStart => 0x80,

@@ -2,7 +2,7 @@
 ghost use Rattle.std.specs.Prelude.{◌≡◌};
 ghost use Rattle.pgs_views.specs.Fragments.{fragment_of, raw_fragment, is_first, is_last};
 
-#[derive(Clone, Copy)]
+#[derive(Clone, Copy, Debug, PartialEq, Eq)]
 pub enum FragmentFlag {
     First,
     Last,
@@ -10,10 +10,10 @@ pub enum FragmentFlag {
     Other(u8),
 }
 
-impl FragmentFlag {
-    pub fn from_raw(v: u8) -> Self
-        ensures { result ≡ fragment_of v }
-    {
+impl From<u8> for FragmentFlag {
+    ghost from_gives = { λ v flag. flag ≡ fragment_of v };
+
+    fn from(v: u8) -> Self {
         match v {
             0x80 => FragmentFlag::First,
             0x40 => FragmentFlag::Last,
@@ -21,39 +21,33 @@ impl FragmentFlag {
             _ => FragmentFlag::Other(v),
         }
     }
+}
 
-    pub fn as_raw(self) -> u8
-        ensures { result ≡ raw_fragment self }
-    {
-        match self {
+impl From<FragmentFlag> for u8 {
+    ghost from_gives = { λ flag v. v ≡ raw_fragment flag };
+
+    fn from(flag: FragmentFlag) -> Self {
+        match flag {
             FragmentFlag::First => 0x80,
             FragmentFlag::Last => 0x40,
             FragmentFlag::FirstAndLast => 0xC0,
             FragmentFlag::Other(v) => v,
         }
     }
+}
 
+impl FragmentFlag {
     // Whether the fragment opens its object, and so has the dimensions.
     pub fn is_first(self) -> bool
         ensures { result ≡ is_first self }
     {
-        match self {
-            FragmentFlag::First => true,
-            FragmentFlag::Last => false,
-            FragmentFlag::FirstAndLast => true,
-            FragmentFlag::Other(_) => false,
-        }
+        matches!(self, FragmentFlag::First | FragmentFlag::FirstAndLast)
     }
 
     // Whether the fragment closes its object.
     pub fn is_last(self) -> bool
         ensures { result ≡ is_last self }
     {
-        match self {
-            FragmentFlag::First => false,
-            FragmentFlag::Last => true,
-            FragmentFlag::FirstAndLast => true,
-            FragmentFlag::Other(_) => false,
-        }
+        matches!(self, FragmentFlag::Last | FragmentFlag::FirstAndLast)
     }
 }

@@ -2,7 +2,7 @@
 ghost use Rattle.std.specs.Prelude.{◌≡◌};
 ghost use Rattle.pgs_views.specs.Kinds.{type_of, raw_of};
 
-#[derive(Clone, Copy)]
+#[derive(Clone, Copy, Debug, PartialEq, Eq)]
 pub enum SegmentType {
     Pds,
     Ods,
@@ -12,10 +12,10 @@ pub enum SegmentType {
     Other(u8),
 }
 
-impl SegmentType {
-    pub fn from_raw(v: u8) -> Self
-        ensures { result ≡ type_of v }
-    {
+impl From<u8> for SegmentType {
+    ghost from_gives = { λ v kind. kind ≡ type_of v };
+
+    fn from(v: u8) -> Self {
         match v {
             0x14 => SegmentType::Pds,
             0x15 => SegmentType::Ods,
@@ -25,11 +25,13 @@ impl SegmentType {
             _ => SegmentType::Other(v),
         }
     }
+}
 
-    pub fn as_raw(self) -> u8
-        ensures { result ≡ raw_of self }
-    {
-        match self {
+impl From<SegmentType> for u8 {
+    ghost from_gives = { λ kind v. v ≡ raw_of kind };
+
+    fn from(kind: SegmentType) -> Self {
+        match kind {
             SegmentType::Pds => 0x14,
             SegmentType::Ods => 0x15,
             SegmentType::Pcs => 0x16,

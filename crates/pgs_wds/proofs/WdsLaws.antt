@@ -1,32 +1,36 @@
 -- How testing and reading a WDS body end, over its bytes. Assumes nothing.
-use mathlib.Core.Path.{◌≡◌, ap, ◌∙◌}
+use mathlib.Core.Path.{◌≡◌, ◌∙◌}
 use mathlib.Core.Bool.{true}
-use mathlib.Core.List.{List}
-use Prim.Native.Nat.{ℕ, ◌-◌, ◌*◌, ◌≤◌, ◌<◌}
-use borrow.Author.Tests.{leb-true, le-leb, lt-leb}
+use mathlib.Core.List.{List, map}
+use Prim.Native.Nat.{ℕ, ◌-◌, ◌≤◌}
+use borrow.Author.Tests.{leb-true, le-leb}
 use lib.Dec.{leb}
-use lib.ListN.{length, drop, length-drop}
-use Rattle.pgs_base.specs.Outcome.{gives, refuses, accepted, outcome_of, unless}
-use Rattle.pgs_base.proofs.Outcomes.{first_holds, second_holds, holds}
-use Rattle.pgs_records.specs.Records.{records_fit}
+use lib.ListN.{length, take, drop}
+use Rattle.pgs_base.specs.Outcome.{Outcome, gives, accepted, outcome_of, unless, Delivered}
+use Rattle.pgs_base.proofs.Lists.{to_end}
+use Rattle.pgs_base.proofs.Outcomes.{gave, gave-value, gives_as, first_holds, second_holds, holds}
+use Rattle.pgs_records.specs.Records.{records, records_fit, records_size}
 use Rattle.pgs_wds.specs.WdsBody.{window_of, window_row, window_rows, window_size, window_count, wds_verdict, wds_list}
-use Rattle.pgs_records.proofs.RecordLaws.{fit-fixed, rows-length}
+use Rattle.pgs_records.proofs.RecordLaws.{size-fixed, rows-length}
 
 module _ (b : List ℕ) where
-  pub no-count : length b < 1 → refuses 4 ≡ outcome_of (wds_verdict b) (wds_list b)
-  no-count h = simp (lt-leb 1 (length b) h)
+  -- what follows the count
+  abbrev after_count : List ℕ
+  after_count = take (length b - 1) (drop 1 b)
 
-  fits-is : records_fit window_size (window_count b) (drop 1 b) ≡ leb (9 * window_count b) (length b - 1)
-  fits-is = fit-fixed 9 (window_count b) (drop 1 b) ∙ ap (λ (k : ℕ). leb (9 * window_count b) k) (length-drop 1 b)
+  module _ (h : 1 ≤ length b) {n : ℕ} (e : n ≡ window_count b) where
+    pub windows-walked : {len : ℕ} → gives len ≡ outcome_of (unless 4 (records_fit window_size n after_count)) (records_size window_size n after_count)
+        → gives (record { count = n; start = 1; len = len }) ≡ outcome_of (wds_verdict b) (wds_list b)
+    windows-walked {len} w =
+        let all = gave (unless 4 (records_fit window_size n after_count)) (records_size window_size n after_count) w in
+        let size = gave-value (unless 4 (records_fit window_size n after_count)) (records_size window_size n after_count) w ∙ size-fixed 9 n after_count in
+        gives_as (simp (le-leb 1 (length b) h) (rw (to_end 1 b, e) at all)) (rw (size, e))
 
-  pub short-windows : {n : ℕ} → 1 ≤ length b → n ≡ window_count b → length b - 1 < 9 * n → refuses 4 ≡ outcome_of (wds_verdict b) (wds_list b)
-  short-windows h e s = simp (le-leb 1 (length b) h, fits-is, lt-leb (9 * window_count b) (length b - 1) (rw (← e) s))
-
-  pub whole-windows : {n : ℕ} → 1 ≤ length b → n ≡ window_count b → 9 * n ≤ length b - 1
-      → gives (record { count = n; start = 1; len = 9 * n }) ≡ outcome_of (wds_verdict b) (wds_list b)
-  whole-windows h e s =
-      simp (le-leb 1 (length b) h, fits-is, le-leb (9 * window_count b) (length b - 1) (rw (← e) s))
-      (ap (λ (k : ℕ). gives (record { count = k; start = 1; len = 9 * k })) e)
+    pub windows-delivered : {before now : List (List ℕ)} {answer : Outcome ℕ}
+        → Delivered (unless 4 (records_fit window_size n after_count)) n (map window_row (records window_of window_size n after_count)) before now answer
+        → Delivered (wds_verdict b) (window_count b) (window_rows b) before now answer
+    unfolding window_rows
+    windows-delivered d = simp (le-leb 1 (length b) h) (rw (to_end 1 b, e) at d)
 
   -- an accepted body has its count and its windows
   pub has-count : wds_verdict b ≡ accepted → 1 ≤ length b

@@ -2,13 +2,10 @@
 -- From US 2009/0185789, whose text is not at hand: 01 gives what is needed of it.
 use Rattle.std.specs.Prelude.{ℕ, ◌*◌, List, [], ◌∷◌, map, length, drop, leb}
 use Rattle.pgs_base.specs.Bytes.{num}
-use Rattle.pgs_base.specs.Outcome.{Verdict, Outcome, gives, refuses, and_then, unless}
-use Rattle.pgs_base.specs.Refusals.{number_of}
+use Rattle.pgs_base.specs.Outcome.{Verdict, and_then, unless}
 use Rattle.pgs_records.specs.Records.{records, records_fit}
 use Rattle.pgs_records.specs.declared.BodyList.{BodyList}
 use Rattle.pgs_wds.specs.declared.wds.Window.{Window}
-use Rattle.pgs_wds.specs.declared.wds.WdsAnswer.{WdsAnswer}
-use Rattle.pgs_wds.specs.declared.wds.WdsAnswer.TheVariants.{Windows, Refused}
 
 -- one window, from the bytes at its start
 abbrev pub window_of : List ℕ → Window
@@ -45,7 +42,3 @@ wds_verdict b = and_then (unless 4 (leb 1 (length b))) (unless 4 (records_fit wi
 -- the windows stand after the count
 abbrev pub wds_list : List ℕ → BodyList
 wds_list b = record { count = window_count b; start = 1; len = 9 * window_count b }
-
-abbrev pub wds_outcome : WdsAnswer → Outcome ℕ
-wds_outcome (Windows n) = gives n
-wds_outcome (Refused r) = refuses (number_of r)

@@ -6,9 +6,5 @@ pub(crate) fn put_data(out: &mut [u8], at: usize, data: &[u8])
     requires { at + length «data».now ≤ length out.old }
     ensures { out.new ≡ sets out.old at «data».now }
 {
-    let mut i: usize = 0;
-    while i < data.len() {
-        out[at + i] = data[i];
-        i += 1;
-    }
+    out[at..at + data.len()].copy_from_slice(data);
 }

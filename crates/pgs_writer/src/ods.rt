@@ -1,28 +1,18 @@
 // The writer of an ODS.
-ghost use Rattle.std.specs.Prelude.{◌≡◌, false, [], ◌∷◌, length, ◌+◌, ◌≤◌, ◌<◌};
-ghost use Rattle.pgs_base.specs.Outcome.{pick};
-ghost use Rattle.pgs_base.specs.Outcome.{Delivered};
-ghost use Rattle.pgs_writer_base.specs.Answers.{write_outcome};
-ghost use Rattle.pgs_encoding.specs.Encode.{encode};
+ghost use Rattle.std.specs.Prelude.{◌≡◌, length, ◌+◌, ◌≤◌};
+ghost use Rattle.pgs_base.specs.Outcome.{Delivered, outcome};
+ghost use Rattle.pgs_encoding.specs.Encode.{encode, ods_fields};
 ghost use Rattle.std.proofs.lemmas.List.Edits.{sets};
-ghost use Rattle.pgs_encoding.specs.Encode.{ods_fields};
 ghost use Rattle.pgs_writer_base.specs.Kinds.{ods_segment};
-ghost use Rattle.pgs_encoding.specs.Layout.{written, all_fit};
+ghost use Rattle.pgs_encoding.specs.Layout.{written};
 ghost use Rattle.pgs_encoding.specs.Writable.{write_verdict, ods_writable};
 
 use crate::data::put_data;
 use pgs_base::refusal::Refusal;
-use pgs_ods::ods::{Dimensions, Ods};
+use pgs_ods::ods::Ods;
 use pgs_views::fragment_flag::FragmentFlag;
-use pgs_writer_base::head::{WriteAnswer, put_head};
+use pgs_writer_base::head::{Timestamps, put_head};
 use pgs_writer_base::put::{put_u8, put_u16, put_u24};
-
-// Whether dimensions that are present can be written: at a first fragment alone.
-fn dimensions_fit(first: bool, width: u16, height: u16) -> bool
-    ensures { result ≡ pick first (all_fit ((2, width) ∷ (2, height) ∷ [])) false }
-{
-    first
-}
 
 // Whether the numbers can be written: a declared length below 2^24, and dimensions exactly at a first fragment.
 fn ods_fits(o: Ods) -> bool
@@ -31,12 +21,8 @@ fn ods_fits(o: Ods) -> bool
     if 0xFF_FFFF < o.object_data_length {
         return false;
     }
-    let first = FragmentFlag::from_raw(o.last_in_sequence_flag).is_first();
-    let dimensions = o.dimensions;
-    match dimensions {
-        Dimensions::Absent => !first,
-        Dimensions::Present(width, height) => dimensions_fit(first, width, height),
-    }
+    let first = FragmentFlag::from(o.last_in_sequence_flag).is_first();
+    o.dimensions.is_some() == first
 }
 
 // Stores the numbers at place 13, and answers where the data goes.
@@ -51,10 +37,10 @@ fn put_ods(out: &mut [u8], o: Ods) -> usize
     put_u24(out, 17, o.object_data_length);
     let dimensions = o.dimensions;
     match dimensions {
-        Dimensions::Absent => 20,
-        Dimensions::Present(width, height) => {
-            put_u16(out, 20, width);
-            put_u16(out, 22, height);
+        None => 20,
+        Some(size) => {
+            put_u16(out, 20, size.width);
+            put_u16(out, 22, size.height);
             24
         }
     }
@@ -66,29 +52,33 @@ fn ods_size(o: Ods) -> usize
 {
     let dimensions = o.dimensions;
     match dimensions {
-        Dimensions::Absent => 7,
-        Dimensions::Present(_, _) => 11,
+        None => 7,
+        Some(_) => 11,
     }
 }
 
 // Writes an ODS: 35 for numbers that do not fit or a body over 65,535 bytes, then 34.
-pub fn encode_ods(pts: u32, dts: u32, ods: Ods, data: &[u8], out: &mut [u8]) -> WriteAnswer
-    ensures { Delivered (write_verdict (ods_segment pts dts ods «data».now)) (length (encode (ods_segment pts dts ods «data».now))) (encode (ods_segment pts dts ods «data».now)) out.old out.new (write_outcome result) }
+pub fn encode_ods(
+    times: Timestamps,
+    ods: Ods,
+    data: &[u8],
+    out: &mut [u8],
+) -> Result<usize, Refusal>
+    ensures { Delivered (write_verdict (ods_segment times.pts times.dts ods «data».now)) (length (encode (ods_segment times.pts times.dts ods «data».now))) (encode (ods_segment times.pts times.dts ods «data».now)) out.old out.new (outcome result) }
 {
-    if ods_fits(ods) {
-        let head = ods_size(ods);
-        if 65535 - head < data.len() {
-            return WriteAnswer::Refused(Refusal::NotEncodable);
-        }
-        let size = head + data.len();
-        if out.len() < 13 + size {
-            return WriteAnswer::Refused(Refusal::BufferTooSmall);
-        }
-        put_head(out, pts, dts, 0x15, size as u16);
-        let at = put_ods(out, ods);
-        put_data(out, at, data);
-        WriteAnswer::Written(13 + size)
-    } else {
-        WriteAnswer::Refused(Refusal::NotEncodable)
+    if !ods_fits(ods) {
+        return Err(Refusal::NotEncodable);
     }
+    let head = ods_size(ods);
+    if 65535 - head < data.len() {
+        return Err(Refusal::NotEncodable);
+    }
+    let size = head + data.len();
+    if out.len() < 13 + size {
+        return Err(Refusal::BufferTooSmall);
+    }
+    put_head(out, times, 0x15, size as u16);
+    let at = put_ods(out, ods);
+    put_data(out, at, data);
+    Ok(13 + size)
 }

@@ -1,115 +1,86 @@
--- Loops over the records of a list: a test of each, their size, and stores of each. Assumes nothing.
+-- Loops over the rows of a list: a test of each, their size, and stores of each. Assumes nothing.
 use mathlib.Core.Path.{◌≡◌, refl, sym, ap, ◌∙◌}
 use mathlib.Core.Bool.{Bool, true, false}
 use mathlib.Core.List.{List, [], ◌∷◌, ◌++◌, map}
-use Prim.Native.Nat.{ℕ, zero, suc, ◌+◌, ◌-◌, ◌≤◌, ◌<◌}
+use Prim.Native.Nat.{ℕ, ◌+◌, ◌≤◌, ◌<◌}
 use native.Mathlib.Nat.{add-zero}
 use native.Mathlib.Numerals.{add-one}
 use native.Mathlib.Omega.{arith}
 use lib.ListN.{length, drop, get_or, length-append}
-use lib.Seq.{sets, length-sets, drop-cons, drop-length}
-use Rattle.pgs_records.proofs.RecordLaws.{first_fits, rest-fits}
+use lib.Seq.{sets, drop-cons, drop-length}
+use mathlib.Core.Bool.{◌&&◌}
+use Rattle.std.specs.List.{list_all}
+use Rattle.pgs_base.specs.Outcome.{pick}
 use Rattle.pgs_encoding.specs.Layout.{Field, written, each, record_bytes}
-use Rattle.pgs_writer_base.proofs.PutLaws.{sets-append}
+use Rattle.pgs_writer_base.proofs.PutLaws.{sets-append, sets-out}
 
--- a test that each record passes, at one of them
-pub each_at : {A : Type 0} (f : List ℕ → A) (test : A → Bool) (rows : List (List ℕ)) (i : ℕ) → each test (map f rows) ≡ true → i < length rows
-    → test (f (get_or rows i [])) ≡ true
-each_at f test [] i e h = absurd (omega arith)
-each_at f test (r ∷ rows) zero e h = first_fits (test (f r)) (each test (map f rows)) e
-each_at f test (r ∷ rows) (suc i) e h = each_at f test rows i (rest-fits (test (f r)) (each test (map f rows)) e) (omega arith)
+-- a test of each, as the library says it
+pub each-all : {A : Type 0} (test : A → Bool) (rows : List A) → list_all test rows ≡ each test rows
+each-all test [] = refl
+each-all test (r ∷ rows) = go (test r) (each-all test rows)
+  where
+    go : (t : Bool) {a b : Bool} → a ≡ b → (t && a) ≡ pick t b false
+    go true e = e
+    go false e = refl
 
-module _ {A : Type 0} (f : List ℕ → A) (rows : List (List ℕ)) where
-  -- the next record
-  next : {i : ℕ} → i < length rows → drop i rows ≡ get_or rows i [] ∷ drop (i + 1) rows
-  next {i} h = drop-cons rows i [] h ∙ ap (λ (k : ℕ). get_or rows i [] ∷ drop k rows) (sym (add-one i))
+-- rows by what they stand for
+pub each-map : {A B : Type 0} (f : A → B) (test : B → Bool) (rows : List A) → each (λ (r : A). test (f r)) rows ≡ each test (map f rows)
+each-map f test [] = refl
+each-map f test (r ∷ rows) = ap (λ (t : Bool). pick (test (f r)) t false) (each-map f test rows)
 
-  none : {i : ℕ} → i ≤ length rows → length rows ≤ i → drop i rows ≡ []
-  none {i} h q = let e : i ≡ length rows = omega arith in ap (λ (k : ℕ). drop k rows) e ∙ drop-length rows
+pub bytes-map : {A B : Type 0} (f : A → B) (fields : B → List Field) (rows : List A) → record_bytes (λ (r : A). fields (f r)) rows ≡ record_bytes fields (map f rows)
+bytes-map f fields [] = refl
+bytes-map f fields (r ∷ rows) = ap (λ (t : List ℕ). written (fields (f r)) ++ t) (bytes-map f fields rows)
 
-  module _ (test : A → Bool) where
-    -- i records passed the test
-    pub record Testing (i : ℕ) : Type 0 where
-      pub upto : i ≤ length rows
-      pub left : each test (map f (drop i rows)) ≡ each test (map f rows)
-
-    pub testing : Testing 0
-    testing = record { upto = omega arith; left = refl }
-
-    pub passes : {i : ℕ} → Testing i → i < length rows → test (f (get_or rows i [])) ≡ true → Testing (i + 1)
-    passes t h e =
-        record {
-          upto = omega arith;
-          left = sym (ap (λ (l : List (List ℕ)). each test (map f l)) (next h) ∙ simp e) ∙ t.left;
-        }
-
-    pub fails : {i : ℕ} → Testing i → i < length rows → test (f (get_or rows i [])) ≡ false → each test (map f rows) ≡ false
-    fails t h e = sym t.left ∙ (ap (λ (l : List (List ℕ)). each test (map f l)) (next h) ∙ simp e)
-
-    pub passed : {i : ℕ} → Testing i → length rows ≤ i → each test (map f rows) ≡ true
-    passed t h = sym t.left ∙ ap (λ (l : List (List ℕ)). each test (map f l)) (none t.upto h)
+module _ {A : Type 0} (rows : List A) where
+  -- the next row
+  next : {i : ℕ} {a : A} → i < length rows → a ≡ get_or rows i a → drop i rows ≡ a ∷ drop (i + 1) rows
+  next {i} {a} h e = drop-cons rows i a h ∙ (λ j. sym e j ∷ drop (sym (add-one i) j) rows)
 
   module _ (fields : A → List Field) where
-    bytes_next : {i : ℕ} → i < length rows
-        → record_bytes fields (map f (drop i rows)) ≡ written (fields (f (get_or rows i []))) ++ record_bytes fields (map f (drop (i + 1) rows))
-    bytes_next h = ap (λ (l : List (List ℕ)). record_bytes fields (map f l)) (next h)
+    bytes_next : {i : ℕ} {a : A} → i < length rows → a ≡ get_or rows i a
+        → record_bytes fields (drop i rows) ≡ written (fields a) ++ record_bytes fields (drop (i + 1) rows)
+    bytes_next h e = ap (record_bytes fields) (next h e)
 
-    -- how long they are
-    size-next : {i : ℕ} → i < length rows
-        → length (record_bytes fields (map f (drop i rows))) ≡ length (written (fields (f (get_or rows i [])))) + length (record_bytes fields (map f (drop (i + 1) rows)))
-    size-next {i} h =
-        ap length (bytes_next h) ∙ length-append (written (fields (f (get_or rows i [])))) (record_bytes fields (map f (drop (i + 1) rows)))
+    -- i rows take `size` bytes
+    pub record Measuring (i size : ℕ) : Type 0 where
+      pub reach : size + length (record_bytes fields (drop i rows)) ≡ length (record_bytes fields rows)
 
-  module _ (fields : A → List Field) (first : ℕ) where
-    -- i records take the places from `first` up to `at`
-    pub record Measuring (i at : ℕ) : Type 0 where
-      pub upto : i ≤ length rows
-      pub reach : at + length (record_bytes fields (map f (drop i rows))) ≡ first + length (record_bytes fields (map f rows))
+    pub measuring : Measuring 0 0
+    measuring = record { reach = omega arith }
 
-    pub measuring : Measuring 0 first
-    measuring = record { upto = omega arith; reach = refl }
+    pub measures : {i size k : ℕ} {a : A} → Measuring i size → i < length rows → a ≡ get_or rows i a → k ≡ length (written (fields a))
+        → Measuring (i + 1) (size + k)
+    measures {i} {a = a} s h e q = record { reach = omega (arith, s.reach, after) }
+      where
+        after : length (record_bytes fields (drop i rows)) ≡ length (written (fields a)) + length (record_bytes fields (drop (i + 1) rows))
+        after = ap length (bytes_next h e) ∙ length-append (written (fields a)) (record_bytes fields (drop (i + 1) rows))
 
-    pub measures : {i at k : ℕ} → Measuring i at → i < length rows → k ≡ length (written (fields (f (get_or rows i []))))
-        → Measuring (i + 1) (at + k)
-    measures s h q = record { upto = omega arith; reach = omega (arith, s.reach, size-next fields h) }
+    pub measured : {size : ℕ} → Measuring (length rows) size → size ≡ length (record_bytes fields rows)
+    measured {size} s = sym (ap (λ (l : List A). size + length (record_bytes fields l)) (drop-length rows) ∙ add-zero size) ∙ s.reach
 
-    -- the next one ends within the whole
-    pub within : {i at : ℕ} → Measuring i at → i < length rows
-        → at + length (written (fields (f (get_or rows i [])))) ≤ first + length (record_bytes fields (map f rows))
-    within s h = omega (arith, s.reach, size-next fields h)
+    module _ (start : List ℕ) (first : ℕ) where
+      -- i rows are stored from place `first` on, and the next one goes to `at`: storing the others gives the whole
+      pub record Storing (now : List ℕ) (i at : ℕ) : Type 0 where
+        pub left : sets now at (record_bytes fields (drop i rows)) ≡ sets start first (record_bytes fields rows)
 
-    pub measured : {i at : ℕ} → Measuring i at → length rows ≤ i → at ≡ first + length (record_bytes fields (map f rows))
-    measured {i} {at} s h =
-        sym (ap (λ (l : List (List ℕ)). at + length (record_bytes fields (map f l))) (none s.upto h) ∙ add-zero at) ∙ s.reach
+      pub storing : Storing start 0 first
+      storing = record { left = refl }
 
-  module _ (fields : A → List Field) (start : List ℕ) (first : ℕ) where
-    -- i records are stored from place `first` on, and the next one goes to `at`: storing the others gives the whole
-    pub record Storing (now : List ℕ) (i at : ℕ) : Type 0 where
-      pub measure : Measuring fields first i at
-      pub same : length now ≡ length start
-      pub left : sets now at (record_bytes fields (map f (drop i rows))) ≡ sets start first (record_bytes fields (map f rows))
+      -- the next one is stored
+      pub stores : {now now' : List ℕ} {i at k : ℕ} {a : A} → Storing now i at → i < length rows → a ≡ get_or rows i a
+          → k ≡ length (written (fields a)) → now' ≡ sets now at (written (fields a)) → Storing now' (i + 1) (at + k)
+      stores {now} {now'} {i} {at} {k} {a} s h e q w =
+          let b = written (fields a) in
+          let r = record_bytes fields (drop (i + 1) rows) in
+          record {
+            left =
+                (λ j. sets (w j) (at + q j) r) ∙ sets-append now at b r ∙ ap (sets now at) (sym (bytes_next h e)) ∙ s.left;
+          }
 
-    pub storing : Storing start 0 first
-    storing = record { measure = measuring fields first; same = refl; left = refl }
+      -- what is left lies past the end
+      pub stored-past : {now : List ℕ} {i at : ℕ} → Storing now i at → length now ≤ at → now ≡ sets start first (record_bytes fields rows)
+      stored-past {now} {i} {at} s h = sets-out now at (record_bytes fields (drop i rows)) h ∙ s.left
 
-    -- there is room for the next one
-    pub room : {now : List ℕ} {i at : ℕ} → Storing now i at → i < length rows → first + length (record_bytes fields (map f rows)) ≤ length start
-        → at + length (written (fields (f (get_or rows i [])))) ≤ length now
-    room s h q = omega (arith, within fields first s.measure h, s.same)
-
-    pub stores : {now now' : List ℕ} {i at k : ℕ} → Storing now i at → i < length rows
-        → k ≡ length (written (fields (f (get_or rows i [])))) → now' ≡ sets now at (written (fields (f (get_or rows i []))))
-        → Storing now' (i + 1) (at + k)
-    stores {now} {now'} {i} {at} {k} s h q e =
-        let b = written (fields (f (get_or rows i []))) in
-        let r = record_bytes fields (map f (drop (i + 1) rows)) in
-        record {
-          measure = measures fields first s.measure h q;
-          same = ap length e ∙ (length-sets now at b ∙ s.same);
-          left =
-              (λ j. sets (e j) (at + q j) r)
-              ∙ (sets-append now at b r ∙ (ap (sets now at) (sym (bytes_next fields h)) ∙ s.left));
-        }
-
-    pub stored : {now : List ℕ} {i at : ℕ} → Storing now i at → length rows ≤ i → now ≡ sets start first (record_bytes fields (map f rows))
-    stored {now} {at = at} s h = sym (ap (λ (l : List (List ℕ)). sets now at (record_bytes fields (map f l))) (none s.measure.upto h)) ∙ s.left
+      pub stored : {now : List ℕ} {at : ℕ} → Storing now (length rows) at → now ≡ sets start first (record_bytes fields rows)
+      stored {now} {at} s = sym (ap (λ (l : List A). sets now at (record_bytes fields l)) (drop-length rows)) ∙ s.left

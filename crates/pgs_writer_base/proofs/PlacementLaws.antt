@@ -1,12 +1,13 @@
 -- What the writer of a PCS tests of its numbers and its records of placements, and stores of them. Assumes nothing.
+use Rattle.std.specs.Prelude.{None, Some}
 use mathlib.Core.Path.{◌≡◌, refl, sym, ap, ◌∙◌}
 use mathlib.Core.Bool.{Bool, true, false}
 use mathlib.Core.List.{List, [], ◌∷◌, ◌++◌, map}
 use Prim.Native.Nat.{ℕ, zero, suc, ◌+◌, ◌*◌, ◌^◌, ◌≤◌, ◌<◌}
 use native.Mathlib.Omega.{arith}
-use borrow.Author.Tests.{ltb-true, lt-ltb, le-ltb, lt-leb, eq-eqb, ne_eqb}
+use borrow.Author.Tests.{lt-ltb, le-ltb, lt-leb, eq-eqb, ne_eqb}
 use lib.Dec.{eqb, leb, ltb}
-use lib.ListN.{length, take, drop, get_or, length-append, length-map}
+use lib.ListN.{length, take, get_or, length-append, length-map}
 use lib.Seq.{sets}
 use Rattle.pgs_base.specs.Bytes.{bytes_of}
 use Rattle.pgs_base.specs.Outcome.{pick}
@@ -14,20 +15,19 @@ use Rattle.pgs_records.proofs.RecordLaws.{first_fits, rest-fits}
 use Rattle.pgs_segment.specs.Fields.{pcs}
 use Rattle.pgs_pcs.specs.PcsBody.{crop_from}
 use Rattle.pgs_pcs.specs.declared.pcs.CompositionObjectCrop.{CompositionObjectCrop}
-use Rattle.pgs_pcs.specs.declared.pcs.Cropping.TheVariants.{Uncropped, Cropped}
 use Rattle.pgs_pcs.specs.declared.pcs.Pcs.{Pcs}
 use Rattle.pgs_encoding.specs.Encode.{body_bytes, crop_fields, placement_fields, pcs_fields}
 use Rattle.pgs_writer_base.specs.Kinds.{pcs_segment, pcs_rows_writable, placement_row_fits, placement_rows_fit}
 use Rattle.pgs_encoding.specs.Layout.{Field, written, all_fit, each, record_bytes}
 use Rattle.pgs_writer_base.specs.Rows.{placement_from, mark_fits}
 use Rattle.pgs_encoding.specs.Writable.{writable, placement_writable, crop_where}
-use Rattle.pgs_writer_base.proofs.EachLaws.{each_at}
+use Rattle.pgs_writer_base.proofs.EachLaws.{bytes-map}
 use Rattle.pgs_writer_base.proofs.FitLaws.{pick-neither, pick-self}
 use Rattle.pgs_writer_base.proofs.PutLaws.{then-sets, wrote}
 use Rattle.pgs_writer_base.proofs.WriteLaws.{body_refused, writable-body}
 
 -- a crop is marked by 1, and exactly at the flag
-marked : (x : CompositionObjectCrop) (t : Bool) (m : ℕ) → pick (leb m 1) (crop_where t (pick (eqb m 0) Uncropped (Cropped x))) false ≡ pick t (eqb m 1) (eqb m 0)
+marked : (x : CompositionObjectCrop) (t : Bool) (m : ℕ) → pick (leb m 1) (crop_where t (pick (eqb m 0) None (Some x))) false ≡ pick t (eqb m 1) (eqb m 0)
 marked x true zero = refl
 marked x false zero = refl
 marked x true (suc zero) = refl
@@ -66,7 +66,7 @@ module _ (r : List ℕ) where
   pub size-most : length (written (placement_fields (placement_from r))) ≤ 16
   size-most = most (eqb (get_or r 5 0) 0)
     where
-      most : (t : Bool) → length (written (before (crop_fields (pick t Uncropped (Cropped cut))))) ≤ 16
+      most : (t : Bool) → length (written (before (crop_fields (pick t None (Some cut))))) ≤ 16
       most true = omega arith
       most false = omega arith
 
@@ -96,7 +96,7 @@ module _ (r : List ℕ) where
             lt-ltb (get_or r 4 0) (256 ^ 2) (cell 4),
           ) e
 
-      crop-fits : (t : Bool) → all_fit (crop_fields (pick t Uncropped (Cropped cut))) ≡ true
+      crop-fits : (t : Bool) → all_fit (crop_fields (pick t None (Some cut))) ≡ true
       crop-fits true = refl
       crop-fits false =
           simp
@@ -142,38 +142,16 @@ module _ (r : List ℕ) where
         refl ed
         ∙ sym (ap (λ (fs : List Field). sets m at (written fs)) (crop-some q))
 
--- a record that can be written has a window id and a flag of one byte each
-module _ (rows : List (List ℕ)) (i : ℕ) (e : placement_rows_fit rows ≡ true) (h : i < length rows) where
-  after-id : pick (ltb (get_or (get_or rows i []) 1 0) 256)
-      (pick (ltb (get_or (get_or rows i []) 2 0) 256)
-      (all_fit (drop 3 (before (get_or rows i []) (crop_fields (crop_from (get_or rows i [])))))) false) false
-      ≡ true
-  after-id =
-      let r = get_or rows i [] in
-      rest-fits (ltb (get_or r 0 0) 65536) _
-      (rest-fits (crop_where (eqb (get_or r 2 0) 0x40) (crop_from r)) _
-      (each_at placement_from placement_writable rows i (rest-fits (each mark_fits rows) _ e) h))
-
-  pub window-byte : get_or (get_or rows i []) 1 0 ≤ 255
-  window-byte =
-      let r = get_or rows i [] in
-      omega (arith, ltb-true (get_or r 1 0) 256 (first_fits (ltb (get_or r 1 0) 256) _ after-id))
-
-  pub flag-byte : get_or (get_or rows i []) 2 0 ≤ 255
-  flag-byte =
-      let r = get_or rows i [] in
-      omega (arith, ltb-true (get_or r 2 0) 256 (first_fits (ltb (get_or r 2 0) 256) _ (rest-fits (ltb (get_or r 1 0) 256) _ after-id)))
-
 -- the records that can be written
 both : (a b c d : Bool) → pick (pick a c false) (pick b d false) false ≡ pick (pick a b false) (pick c d false) false
 both true true c d = refl
 both true false c d = pick-neither c
 both false b c d = refl
 
-pub rows_fit : (rows : List (List ℕ)) → each placement_row_fits (map (λ (r : List ℕ). r) rows) ≡ placement_rows_fit rows
-rows_fit [] = refl
-rows_fit (r ∷ rows) =
-    ap (λ (u : Bool). pick (placement_row_fits r) u false) (rows_fit rows)
+pub placements-fit : (rows : List (List ℕ)) → each placement_row_fits rows ≡ placement_rows_fit rows
+placements-fit [] = refl
+placements-fit (r ∷ rows) =
+    ap (λ (u : Bool). pick (placement_row_fits r) u false) (placements-fit rows)
     ∙ both (mark_fits r) (each mark_fits rows) (placement_writable (placement_from r)) (each placement_writable (map placement_from rows))
 
 pub rows-most : (rows : List (List ℕ)) → length (record_bytes placement_fields (map placement_from rows)) ≤ 16 * length rows
@@ -254,10 +232,11 @@ module _ (p d : ℕ) (n : Pcs) (rows : List (List ℕ)) where
       λ i. pick (marks i) (all i) false
 
   -- the numbers, then the placements
-  pub pcs-body : (m : List ℕ) {a b : List ℕ} → a ≡ sets m 13 (written (pcs_fields n (length rows))) → b ≡ sets a 24 (record_bytes placement_fields (map placement_from rows))
+  pub pcs-body : (m : List ℕ) {a b : List ℕ} → a ≡ sets m 13 (written (pcs_fields n (length rows))) → b ≡ sets a 24 (record_bytes (λ (r : List ℕ). placement_fields (placement_from r)) rows)
       → b ≡ sets m 13 (body_bytes (pcs n (map placement_from rows)))
-  pcs-body m e r =
+  pcs-body m {a} e r =
       let placed = record_bytes placement_fields (map placement_from rows) in
       r
+      ∙ ap (sets a 24) (bytes-map placement_from placement_fields rows)
       ∙ (then-sets m 13 (written (pcs_fields n (length rows))) placed e refl
       ∙ ap (λ (k : ℕ). sets m 13 (written (pcs_fields n k) ++ placed)) (sym (length-map rows placement_from)))

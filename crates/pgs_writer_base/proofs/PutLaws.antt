@@ -1,12 +1,12 @@
 -- Stores that follow one another. Assumes nothing.
 use mathlib.Core.Path.{◌≡◌, refl, sym, ap, ◌∙◌}
-use mathlib.Core.List.{List, [], ◌∷◌, ◌++◌, append-nil}
-use Prim.Native.Nat.{ℕ, suc, ◌+◌, ◌-◌, ◌≤◌, ◌<◌}
+use mathlib.Core.List.{List, [], ◌∷◌, ◌++◌, append-nil, append_assoc}
+use Prim.Native.Nat.{ℕ, suc, ◌+◌, ◌≤◌, ◌<◌, ◌%◌}
 use native.Mathlib.Nat.{add-suc, suc-add, add-zero}
 use native.Mathlib.Numerals.{add-one}
 use native.Mathlib.Omega.{arith}
-use lib.ListN.{length, drop, get_or, set, length-set}
-use lib.Seq.{sets, set_out, sets-eq, drop-cons, drop-length}
+use lib.ListN.{length, take, drop, set, get_or, length-set}
+use lib.Seq.{sets, set_out, sets-eq, drop-drop, drop-cons, drop-length}
 use Rattle.pgs_base.specs.Bytes.{bytes_of}
 use Rattle.pgs_base.specs.Outcome.{accepted, laid}
 use Rattle.pgs_encoding.specs.Layout.{Field, written}
@@ -36,7 +36,15 @@ sets-front vs l h = sets-eq vs l 0 (omega arith) ∙ ap (λ (k : ℕ). vs ++ dro
     omega_zero : (n : ℕ) → 0 + n ≡ n
     omega_zero n = omega arith
 
--- i elements of `data` are stored from place `at` on: storing the others gives the whole
+-- all of it at once, where there is room
+pub sets-part : {A : Type 0} (l : List A) (i : ℕ) (vs : List A) → i + length vs ≤ length l → take i l ++ (vs ++ drop (length vs) (drop i l)) ≡ sets l i vs
+sets-part l i vs h = rw (drop-drop (length vs) i l) (sym (sets-eq vs l i h ∙ append_assoc (take i l) vs (drop (i + length vs) l)))
+
+-- a number in one byte is its low byte
+pub low-byte : (n : ℕ) → bytes_of 1 (n % 256) ≡ bytes_of 1 n
+low-byte n = let e : n % 256 % 256 ≡ n % 256 = omega arith in ap (λ (k : ℕ). k ∷ []) e
+
+-- i elements of `bytes` are stored from place `at` on: storing the others gives the whole
 pub record Copying (start : List ℕ) (at : ℕ) (bytes now : List ℕ) (i : ℕ) : Type 0 where
   pub upto : i ≤ length bytes
   pub same : length now ≡ length start

@@ -1,6 +1,8 @@
 -- What can be written of each kind, from what the writers test. Assumes nothing.
+use Rattle.std.specs.Prelude.{Option, None, Some}
 use mathlib.Core.Path.{◌≡◌, refl, sym, ap, ◌∙◌}
-use mathlib.Core.Bool.{Bool, true, false}
+use mathlib.Core.Bool.{Bool, true, false, not, beq}
+use Rattle.std.specs.Option.{is_some}
 use mathlib.Core.List.{List, [], ◌∷◌, ◌++◌, map}
 use Prim.Native.Nat.{ℕ, ◌+◌, ◌*◌, ◌^◌, ◌≤◌, ◌<◌}
 use native.Mathlib.Omega.{arith}
@@ -12,7 +14,6 @@ use Rattle.pgs_base.specs.Outcome.{pick}
 use Rattle.pgs_segment.specs.Fields.{wds, pds, ods}
 use Rattle.pgs_views.specs.Fragments.{fragment_of, is_first}
 use Rattle.pgs_ods.specs.declared.ods.Dimensions.{Dimensions}
-use Rattle.pgs_ods.specs.declared.ods.Dimensions.TheVariants.{Absent, Present}
 use Rattle.pgs_ods.specs.declared.ods.Ods.{Ods}
 use Rattle.pgs_pds.specs.declared.pds.PaletteEntry.{PaletteEntry}
 use Rattle.pgs_pds.specs.declared.pds.Pds.{Pds}
@@ -22,6 +23,7 @@ use Rattle.pgs_writer_base.specs.Kinds.{wds_segment, window_rows_fit, pds_segmen
 use Rattle.pgs_encoding.specs.Layout.{Field, written, all_fit, each, record_bytes}
 use Rattle.pgs_writer_base.specs.Rows.{window_from, entry_from}
 use Rattle.pgs_encoding.specs.Writable.{writable, ods_writable, dimensions_where}
+use Rattle.pgs_writer_base.proofs.EachLaws.{each-map, bytes-map}
 use Rattle.pgs_writer_base.proofs.FitLaws.{pick-neither}
 use Rattle.pgs_encoding.proofs.LayoutLaws.{length-written}
 use Rattle.pgs_writer_base.proofs.PutLaws.{then-sets, wrote}
@@ -55,11 +57,16 @@ module _ (p d : ℕ) (rows : List (List ℕ)) where
       writable-body (wds_segment p d rows) hp hd (omega arith) (omega (arith, wds-length))
       (simp (length-map rows window_from, lt-ltb (length rows) (256 ^ 1) (omega arith), e))
 
+  -- the test of each row
+  pub windows-fit : each (λ (r : List ℕ). all_fit (window_fields (window_from r))) rows ≡ window_rows_fit rows
+  windows-fit = each-map window_from (λ w. all_fit (window_fields w)) rows
+
   -- the count, then the windows
-  pub wds-body : (m : List ℕ) {n n' : List ℕ} → n ≡ sets m 13 (bytes_of 1 (length rows)) → n' ≡ sets n 14 (record_bytes window_fields (map window_from rows))
+  pub wds-body : (m : List ℕ) {n n' : List ℕ} → n ≡ sets m 13 (bytes_of 1 (length rows)) → n' ≡ sets n 14 (record_bytes (λ (r : List ℕ). window_fields (window_from r)) rows)
       → n' ≡ sets m 13 (body_bytes (wds (map window_from rows)))
-  wds-body m e r =
+  wds-body m {n} e r =
       r
+      ∙ ap (sets n 14) (bytes-map window_from window_fields rows)
       ∙ (then-sets m 13 (bytes_of 1 (length rows)) (record_bytes window_fields (map window_from rows)) e refl
       ∙ ap (λ (k : ℕ). sets m 13 (bytes_of 1 k ++ record_bytes window_fields (map window_from rows))) (sym (length-map rows window_from)))
 
@@ -84,16 +91,21 @@ module _ (p d : ℕ) (n : Pds) (rows : List (List ℕ)) where
       writable-body (pds_segment p d n rows) hp hd (omega arith) (omega (arith, pds-length))
       (simp (lt-ltb n.palette_id (256 ^ 1) a, lt-ltb n.palette_version_number (256 ^ 1) b, e))
 
+  -- the test of each row
+  pub entries-fit : each (λ (r : List ℕ). all_fit (entry_fields (entry_from r))) rows ≡ each (λ e. all_fit (entry_fields e)) (map entry_from rows)
+  entries-fit = each-map entry_from (λ e. all_fit (entry_fields e)) rows
+
   -- id and version, then the entries
   pub pds-body : (m : List ℕ) {a b c : List ℕ} → a ≡ sets m 13 (bytes_of 1 n.palette_id) → b ≡ sets a 14 (bytes_of 1 n.palette_version_number)
-      → c ≡ sets b 15 (record_bytes entry_fields (map entry_from rows)) → c ≡ sets m 13 (body_bytes (pds n (map entry_from rows)))
-  pds-body m e q r =
+      → c ≡ sets b 15 (record_bytes (λ (r : List ℕ). entry_fields (entry_from r)) rows) → c ≡ sets m 13 (body_bytes (pds n (map entry_from rows)))
+  pds-body m {b = b} e q r =
       r
+      ∙ ap (sets b 15) (bytes-map entry_from entry_fields rows)
       ∙ then-sets m 13 (written (pds_fields n)) (record_bytes entry_fields (map entry_from rows))
       (wrote m 13 ((1, n.palette_id) ∷ []) 1 n.palette_version_number e refl q) refl
 
 -- the numbers of an ODS
-abbrev pub ods_base : Ods → Dimensions → List Field
+abbrev pub ods_base : Ods → Option Dimensions → List Field
 ods_base o x =
     (2, o.object_id)
     ∷ (1, o.object_version_number)
@@ -109,48 +121,46 @@ module _ (o : Ods) (hi : o.object_id < 65536) (hv : o.object_version_number < 25
       = simp (lt-ltb o.object_id (256 ^ 2) hi, lt-ltb o.object_version_number (256 ^ 1) hv, lt-ltb o.last_in_sequence_flag (256 ^ 1) hf, le-ltb o.object_data_length (256 ^ 3) (omega arith)) in
       ap (λ (u : Bool). pick t u false) e ∙ pick-neither t
 
-  base-fits : o.object_data_length ≤ 0xFFFFFF → (x : Dimensions) → all_fit (ods_base o x) ≡ all_fit (dimension_fields x)
+  base-fits : o.object_data_length ≤ 0xFFFFFF → (x : Option Dimensions) → all_fit (ods_base o x) ≡ all_fit (dimension_fields x)
   base-fits h x =
       simp (lt-ltb o.object_id (256 ^ 2) hi, lt-ltb o.object_version_number (256 ^ 1) hv, lt-ltb o.last_in_sequence_flag (256 ^ 1) hf, lt-ltb o.object_data_length (256 ^ 3) (omega arith))
 
-  pub ods-shape : o.object_data_length ≤ 0xFFFFFF → (x : Dimensions) → o.dimensions ≡ x
+  ods-shape : o.object_data_length ≤ 0xFFFFFF → (x : Option Dimensions) → o.dimensions ≡ x
       → ods_writable o ≡ pick (dimensions_where (is_first (fragment_of o.last_in_sequence_flag)) x) (all_fit (dimension_fields x)) false
   ods-shape h x q =
       (λ i. pick (dimensions_where (is_first (fragment_of o.last_in_sequence_flag)) (q i)) (all_fit (ods_base o (q i))) false)
       ∙ ap (λ (u : Bool). pick (dimensions_where (is_first (fragment_of o.last_in_sequence_flag)) x) u false) (base-fits h x)
 
-module _ (o : Ods) where
-  -- how many bytes the numbers take, by the dimensions
-  pub ods-size-at : {x : Dimensions} → o.dimensions ≡ x → length (written (ods_fields o)) ≡ length (written (ods_base o x))
-  ods-size-at q = ap (λ (x : Dimensions). length (written (ods_base o x))) q
+  -- dimensions are present exactly at a first fragment
+  pub ods-exact : o.object_data_length ≤ 0xFFFFFF → ((d : Dimensions) → o.dimensions ≡ Some d → d.width < 65536) → ((d : Dimensions) → o.dimensions ≡ Some d → d.height < 65536)
+      → {t : Bool} → t ≡ is_first (fragment_of o.last_in_sequence_flag) → beq (is_some o.dimensions) t ≡ ods_writable o
+  ods-exact h w k {t} e = go o.dimensions refl
+    where
+      absent : (u : Bool) → beq false u ≡ pick (not u) true false
+      absent true = refl
+      absent false = refl
 
+      present : (u : Bool) → beq true u ≡ pick u true false
+      present true = refl
+      present false = refl
+
+      go : (x : Option Dimensions) → o.dimensions ≡ x → beq (is_some o.dimensions) t ≡ ods_writable o
+      go None q =
+          ap (λ (x : Option Dimensions). beq (is_some x) t) q
+          ∙ (absent t ∙ (ap (λ (u : Bool). pick (not u) true false) e ∙ sym (ods-shape h None q)))
+      go (Some d) q =
+          let fit : all_fit (dimension_fields (Some d)) ≡ true = simp (lt-ltb d.width (256 ^ 2) (w d q), lt-ltb d.height (256 ^ 2) (k d q)) in
+          ap (λ (x : Option Dimensions). beq (is_some x) t) q
+          ∙ (present t ∙ ((λ i. pick (e i) (sym fit i) false) ∙ sym (ods-shape h (Some d) q)))
+
+module _ (o : Ods) where
+  -- how many bytes the numbers take at most
   pub ods-size-most : length (written (ods_fields o)) ≤ 11
   ods-size-most = most o.dimensions
     where
-      most : (x : Dimensions) → length (written (ods_base o x)) ≤ 11
-      most Absent = omega arith
-      most (Present w h) = omega arith
-
-  module _ (m : List ℕ) {a b c e : List ℕ} (ea : a ≡ sets m 13 (bytes_of 2 o.object_id)) (eb : b ≡ sets a 15 (bytes_of 1 o.object_version_number))
-      (ec : c ≡ sets b 16 (bytes_of 1 o.last_in_sequence_flag)) (ee : e ≡ sets c 17 (bytes_of 3 o.object_data_length)) where
-    -- the numbers before the dimensions, stored one after another
-    base-stored : e ≡ sets m 13 (written (ods_base o Absent))
-    base-stored =
-        let fs : List Field = (2, o.object_id) ∷ [] in
-        let gs : List Field = (2, o.object_id) ∷ (1, o.object_version_number) ∷ [] in
-        let hs : List Field = (2, o.object_id) ∷ (1, o.object_version_number) ∷ (1, o.last_in_sequence_flag) ∷ [] in
-        wrote m 13 hs 3 o.object_data_length
-        (wrote m 13 gs 1 o.last_in_sequence_flag (wrote m 13 fs 1 o.object_version_number ea refl eb) refl ec)
-        refl ee
-
-    pub ods-stored : o.dimensions ≡ Absent → e ≡ sets m 13 (written (ods_fields o))
-    ods-stored q = base-stored ∙ sym (ap (λ (x : Dimensions). sets m 13 (written (ods_base o x))) q)
-
-    pub ods-stored-with : (w h : ℕ) → o.dimensions ≡ Present w h → {f g : List ℕ} → f ≡ sets e 20 (bytes_of 2 w) → g ≡ sets f 22 (bytes_of 2 h)
-        → g ≡ sets m 13 (written (ods_fields o))
-    ods-stored-with w h q ef eg =
-        wrote m 13 (ods_base o Absent ++ ((2, w) ∷ [])) 2 h (wrote m 13 (ods_base o Absent) 2 w base-stored refl ef) refl eg
-        ∙ sym (ap (λ (x : Dimensions). sets m 13 (written (ods_base o x))) q)
+      most : (x : Option Dimensions) → length (written (ods_base o x)) ≤ 11
+      most None = omega arith
+      most (Some d) = omega arith
 
 module _ (o : Ods) (data' : List ℕ) where
   pub ods-length : length (body_bytes (ods o data')) ≡ length (written (ods_fields o)) + length data'

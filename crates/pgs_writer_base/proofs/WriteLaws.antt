@@ -13,9 +13,15 @@ use Rattle.pgs_segment.specs.Fields.{SegmentFields, kind_byte}
 use Rattle.pgs_encoding.specs.Encode.{head_fields, body_bytes, encode}
 use Rattle.pgs_encoding.specs.Layout.{written, all_fit}
 use Rattle.pgs_encoding.specs.Writable.{body_writable, writable}
+use Rattle.pgs_writer_base.specs.declared.head.Timestamps.{Timestamps}
 use Rattle.pgs_writer_base.proofs.FitLaws.{pick-neither}
 use Rattle.pgs_encoding.proofs.LayoutLaws.{length-written}
 use Rattle.pgs_writer_base.proofs.PutLaws.{then-sets, sets-front}
+
+-- the two times fit their fields
+pub record TimesFit (t : Timestamps) : Type 0 where
+  pub pts : t.pts < 2 ^ 32
+  pub dts : t.dts < 2 ^ 32
 
 module _ (f : SegmentFields) where
   -- a body that cannot be written, or does not fit its size field

@@ -3,51 +3,48 @@ ghost use Rattle.std.specs.Prelude.{◌≡◌, set};
 ghost use Rattle.std.proofs.lemmas.List.Edits.{sets};
 ghost use Rattle.pgs_base.specs.Bytes.{bytes_of};
 
-fn put_byte(out: &mut [u8], at: usize, b: u8)
-    ensures { out.new ≡ set out.old at b }
+fn put_byte(out: &mut [u8], at: usize, byte: u8)
+    ensures { out.new ≡ set out.old at byte }
 {
+    if at < out.len() {
+        out[at] = byte;
+    }
+}
+
+// The bytes one after another, each at its place.
+fn put_bytes(out: &mut [u8], at: usize, bytes: &[u8])
+    ensures { out.new ≡ sets out.old at bytes.now }
+{
+    // None fits; from a place within the output on, the sum below cannot wrap.
     if out.len() <= at {
         return;
     }
-    out[at] = b;
+    for (i, byte) in bytes.iter().enumerate() {
+        put_byte(out, at + i, *byte);
+    }
 }
 
 pub fn put_u8(out: &mut [u8], at: usize, n: u8)
     ensures { out.new ≡ sets out.old at (bytes_of 1 n) }
 {
-    put_byte(out, at, n);
+    put_bytes(out, at, &[n]);
 }
 
 pub fn put_u16(out: &mut [u8], at: usize, n: u16)
     ensures { out.new ≡ sets out.old at (bytes_of 2 n) }
 {
-    if out.len() <= at {
-        return;
-    }
-    put_byte(out, at, (n / 256 % 256) as u8);
-    put_byte(out, at + 1, (n % 256) as u8);
+    put_bytes(out, at, &u16::to_be_bytes(n));
 }
 
 // The low 24 bits; the writers refuse a larger number first.
 pub fn put_u24(out: &mut [u8], at: usize, n: u32)
     ensures { out.new ≡ sets out.old at (bytes_of 3 n) }
 {
-    if out.len() <= at {
-        return;
-    }
-    put_byte(out, at, (n / 256 / 256 % 256) as u8);
-    put_byte(out, at + 1, (n / 256 % 256) as u8);
-    put_byte(out, at + 2, (n % 256) as u8);
+    put_bytes(out, at, &u32::to_be_bytes(n)[1..]);
 }
 
 pub fn put_u32(out: &mut [u8], at: usize, n: u32)
     ensures { out.new ≡ sets out.old at (bytes_of 4 n) }
 {
-    if out.len() <= at {
-        return;
-    }
-    put_byte(out, at, (n / 256 / 256 / 256 % 256) as u8);
-    put_byte(out, at + 1, (n / 256 / 256 % 256) as u8);
-    put_byte(out, at + 2, (n / 256 % 256) as u8);
-    put_byte(out, at + 3, (n % 256) as u8);
+    put_bytes(out, at, &u32::to_be_bytes(n));
 }

@@ -5,7 +5,6 @@ ghost use Rattle.std.specs.Prelude.{◌≡◌, ◌≤◌, length, IfOk};
 ghost use Rattle.pgs_cards.specs.Reports.{input_limit};
 ghost use Rattle.setcards.specs.Printing.{Reported};
 
-use pgs_cards::cards::CardsAnswer;
 use pgs_cards::report::{INPUT_LIMIT, write_report};
 use std::io;
 use std::io::Read;
@@ -15,11 +14,8 @@ fn report(input: &[u8], out: &mut [u8]) -> usize
     requires { length out.old ≡ input_limit }
     ensures { Reported input.now out.old out.new result }
 {
-    match write_report(input, out) {
-        CardsAnswer::Written(n) => n,
-        // cannot be: the text fits
-        CardsAnswer::Refused(_) => 0,
-    }
+    // the text fits
+    write_report(input, out).unwrap()
 }
 
 // Reads until the buffer is full or the input ends, and says how many bytes were read.
@@ -27,6 +23,7 @@ fn read_full(reader: &mut impl Read, buf: &mut [u8]) -> io::Result<usize>
     ensures { IfOk result (λ n. n ≤ length buf.new) }
 {
     let mut got: usize = 0;
+    // Stays a loop: the step is as long as what the reader gave, which no range counts.
     while got < buf.len() {
         let n = reader.read(&mut buf[got..])?;
         if n == 0 {

@@ -5,13 +5,15 @@ use pgs_pcs::pcs::Pcs;
 use pgs_writer::end::encode_end;
 use pgs_writer::ods::encode_ods;
 use pgs_writer::other::encode_other;
-use pgs_writer_base::head::WriteAnswer;
+use pgs_writer_base::head::Timestamps;
 use pgs_writer_lists::wds::encode_wds;
 use pgs_writer_pcs::pcs::encode_pcs;
 use std::io;
 
-// A PCS with one placement.
-fn write_one(p: [u16; 10], out: &mut [u8]) -> WriteAnswer {
+const TIMES: Timestamps = Timestamps { pts: 1, dts: 2 };
+
+// Writes a PCS with one placement.
+fn placement(rt: &impl Print, title: &str, p: [u16; 10], out: &mut [u8]) -> io::Result<()> {
     let pcs = Pcs {
         width: 1920,
         height: 1080,
@@ -21,58 +23,58 @@ fn write_one(p: [u16; 10], out: &mut [u8]) -> WriteAnswer {
         palette_update_flag: 0,
         palette_id: 2,
     };
-    let list = [p; 1];
-    encode_pcs(1, 2, pcs, &list, out)
+    let answer = encode_pcs(TIMES, pcs, &[p], out);
+    show::written(rt, title, answer, out)
 }
 
-// Writes it into an output that is long enough for every placement.
-fn placement(rt: &impl Print, title: &[u8], p: [u16; 10]) -> io::Result<()> {
-    let mut out = [0xEEu8; 40];
-    show::written(rt, title, write_one(p, &mut out), &out)
-}
-
-fn placement_into_39(rt: &impl Print, title: &[u8], p: [u16; 10]) -> io::Result<()> {
-    let mut out = [0xEEu8; 39];
-    show::written(rt, title, write_one(p, &mut out), &out)
-}
-
+// An output of 40 bytes is long enough for every placement.
 fn placements(rt: &impl Print) -> io::Result<()> {
     let window = [5, 256, 0, 100, 980, 0, 0, 0, 0, 0];
     let cropped = [5, 255, 0x40, 100, 980, 1, 1, 2, 3, 4];
     placement(
         rt,
-        b"crop without flag 40",
+        "crop without flag 40",
         [5, 0, 0, 100, 980, 1, 1, 2, 3, 4],
+        &mut [0xEE; 40],
     )?;
     placement(
         rt,
-        b"crop at flag C0",
+        "crop at flag C0",
         [5, 0, 0xC0, 100, 980, 1, 1, 2, 3, 4],
+        &mut [0xEE; 40],
     )?;
     placement(
         rt,
-        b"flag 40 without crop",
+        "flag 40 without crop",
         [5, 0, 0x40, 100, 980, 0, 1, 2, 3, 4],
+        &mut [0xEE; 40],
     )?;
-    placement(rt, b"window id of 256", window)?;
-    show::written(rt, b"the same, no output", write_one(window, &mut []), &[])?;
-    placement_into_39(rt, b"crop, into 39", cropped)?;
-    placement(rt, b"crop, into 40", cropped)
+    placement(rt, "window id of 256", window, &mut [0xEE; 40])?;
+    placement(rt, "the same, no output", window, &mut [])?;
+    placement(rt, "crop, into 39", cropped, &mut [0xEE; 39])?;
+    placement(rt, "crop, into 40", cropped, &mut [0xEE; 40])
 }
 
-fn window_list(rt: &impl Print, title: &[u8], windows: &[[u16; 5]]) -> io::Result<()> {
+fn window_list(rt: &impl Print, title: &str, windows: &[[u16; 5]]) -> io::Result<()> {
     let mut out = [0xEEu8; 23];
-    show::written(rt, title, encode_wds(1, 2, windows, &mut out), &out)
+    show::written(rt, title, encode_wds(TIMES, windows, &mut out), &out)
 }
 
 fn windows(rt: &impl Print) -> io::Result<()> {
-    window_list(rt, b"WDS, id of 256", &[[256, 100, 980, 16, 8]])?;
-    window_list(rt, b"256 windows", &[[1, 100, 980, 16, 8]; 256])?;
-    window_list(rt, b"one window", &[[1, 100, 980, 16, 8]])
+    window_list(rt, "WDS, id of 256", &[[256, 100, 980, 16, 8]])?;
+    window_list(rt, "256 windows", &[[1, 100, 980, 16, 8]; 256])?;
+    window_list(rt, "one window", &[[1, 100, 980, 16, 8]])
 }
 
-// A fragment with two data bytes.
-fn write_fragment(flag: u8, declared: u32, dimensions: Dimensions, out: &mut [u8]) -> WriteAnswer {
+// Writes a fragment with two data bytes.
+fn fragment(
+    rt: &impl Print,
+    title: &str,
+    flag: u8,
+    declared: u32,
+    dimensions: Option<Dimensions>,
+    out: &mut [u8],
+) -> io::Result<()> {
     let ods = Ods {
         object_id: 5,
         object_version_number: 3,
@@ -80,74 +82,63 @@ fn write_fragment(flag: u8, declared: u32, dimensions: Dimensions, out: &mut [u8
         object_data_length: declared,
         dimensions,
     };
-    encode_ods(1, 2, ods, b"\xAA\xBB", out)
-}
-
-fn fragment(
-    rt: &impl Print,
-    title: &[u8],
-    flag: u8,
-    declared: u32,
-    dimensions: Dimensions,
-) -> io::Result<()> {
-    let mut out = [0xEEu8; 26];
-    show::written(
-        rt,
-        title,
-        write_fragment(flag, declared, dimensions, &mut out),
-        &out,
-    )
-}
-
-fn fragment_into_25(
-    rt: &impl Print,
-    title: &[u8],
-    flag: u8,
-    declared: u32,
-    dimensions: Dimensions,
-) -> io::Result<()> {
-    let mut out = [0xEEu8; 25];
-    show::written(
-        rt,
-        title,
-        write_fragment(flag, declared, dimensions, &mut out),
-        &out,
-    )
+    let answer = encode_ods(TIMES, ods, b"\xAA\xBB", out);
+    show::written(rt, title, answer, out)
 }
 
 fn fragments(rt: &impl Print) -> io::Result<()> {
-    let size = Dimensions::Present(16, 8);
-    fragment(rt, b"dimensions at a last fragment", 0x40, 6, size)?;
-    fragment(rt, b"dimensions at a middle one", 0, 6, size)?;
-    fragment(rt, b"none at a first one", 0x80, 6, Dimensions::Absent)?;
-    fragment(rt, b"declared 2^24", 0xC0, 0x100_0000, size)?;
-    fragment_into_25(rt, b"declared 2^24 - 1, into 25", 0xC0, 0xFF_FFFF, size)?;
-    fragment(rt, b"declared 2^24 - 1, into 26", 0xC0, 0xFF_FFFF, size)
+    let size = Some(Dimensions {
+        width: 16,
+        height: 8,
+    });
+    fragment(
+        rt,
+        "dimensions at a last fragment",
+        0x40,
+        6,
+        size,
+        &mut [0xEE; 26],
+    )?;
+    fragment(
+        rt,
+        "dimensions at a middle one",
+        0,
+        6,
+        size,
+        &mut [0xEE; 26],
+    )?;
+    fragment(rt, "none at a first one", 0x80, 6, None, &mut [0xEE; 26])?;
+    fragment(rt, "declared 2^24", 0xC0, 0x100_0000, size, &mut [0xEE; 26])?;
+    fragment(
+        rt,
+        "declared 2^24 - 1, into 25",
+        0xC0,
+        0xFF_FFFF,
+        size,
+        &mut [0xEE; 25],
+    )?;
+    fragment(
+        rt,
+        "declared 2^24 - 1, into 26",
+        0xC0,
+        0xFF_FFFF,
+        size,
+        &mut [0xEE; 26],
+    )
+}
+
+// Writes a segment of another kind with two data bytes.
+fn other(rt: &impl Print, title: &str, kind: u8, out: &mut [u8]) -> io::Result<()> {
+    let answer = encode_other(TIMES, kind, b"\xAA\xBB", out);
+    show::written(rt, title, answer, out)
 }
 
 fn others(rt: &impl Print) -> io::Result<()> {
-    let mut out = [0xEEu8; 15];
-    let mut short = [0xEEu8; 14];
+    other(rt, "unknown kind 16", 0x16, &mut [0xEE; 15])?;
+    other(rt, "unknown kind 99, into 14", 0x99, &mut [0xEE; 14])?;
+    other(rt, "unknown kind 99, into 15", 0x99, &mut [0xEE; 15])?;
     let mut end = [0xEEu8; 12];
-    show::written(
-        rt,
-        b"unknown kind 16",
-        encode_other(1, 2, 0x16, b"\xAA\xBB", &mut out),
-        &out,
-    )?;
-    show::written(
-        rt,
-        b"unknown kind 99, into 14",
-        encode_other(1, 2, 0x99, b"\xAA\xBB", &mut short),
-        &short,
-    )?;
-    show::written(
-        rt,
-        b"unknown kind 99, into 15",
-        encode_other(1, 2, 0x99, b"\xAA\xBB", &mut out),
-        &out,
-    )?;
-    show::written(rt, b"END, into 12", encode_end(1, 2, &mut end), &end)
+    show::written(rt, "END, into 12", encode_end(TIMES, &mut end), &end)
 }
 
 pub(crate) fn samples(rt: &impl Print) -> io::Result<()> {

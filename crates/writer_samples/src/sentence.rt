@@ -1,9 +1,10 @@
 // A long accented sentence: a placement for each letter, and one for each accent, which is cropped out of a sheet of accents.
 // The published Rust stores 256 placements as a count of 0, so that a reader loses the sentence.
 use crate::show;
-use pgs_pcs::pcs::{Pcs, PcsAnswer};
-use pgs_segment::segment::{Segment, SegmentAnswer};
-use pgs_writer_base::head::WriteAnswer;
+use pgs_base::refusal::Refusal;
+use pgs_pcs::pcs::Pcs;
+use pgs_segment::segment::Segment;
+use pgs_writer_base::head::Timestamps;
 use pgs_writer_pcs::pcs::encode_pcs;
 use std::io;
 
@@ -19,42 +20,10 @@ fn sign(i: u8) -> [u16; 10] {
 
 fn sentence() -> [[u16; 10]; 256] {
     let mut signs = [[0u16; 10]; 256];
-    let mut i: usize = 0;
-    while i < 256 {
-        signs[i] = sign(i as u8);
-        i += 1;
+    for i in 0..=255u8 {
+        signs[i as usize] = sign(i);
     }
     signs
-}
-
-fn equal(a: [u16; 10], b: [u16; 10]) -> bool {
-    let mut k: usize = 0;
-    while k < 10 {
-        if a[k] != b[k] {
-            return false;
-        }
-        k += 1;
-    }
-    true
-}
-
-// Whether the first n records of `found` are those wanted, and as many.
-fn all_equal(found: &[[u16; 10]], n: usize, wanted: &[[u16; 10]]) -> bool {
-    if wanted.len() != n {
-        return false;
-    }
-    if found.len() < n {
-        return false;
-    }
-    let mut i: usize = 0;
-    while i < n {
-        if equal(found[i], wanted[i]) {
-            i += 1;
-        } else {
-            return false;
-        }
-    }
-    true
 }
 
 fn numbers() -> Pcs {
@@ -70,32 +39,28 @@ fn numbers() -> Pcs {
 }
 
 fn print_numbers(rt: &impl Print, p: Pcs) -> io::Result<()> {
-    show::text(rt, b", numbers")?;
-    show::number(rt, p.width as u64)?;
-    show::number(rt, p.height as u64)?;
-    show::number(rt, p.frame_rate as u64)?;
-    show::number(rt, p.composition_number as u64)?;
-    show::number(rt, p.composition_state as u64)?;
-    show::number(rt, p.palette_update_flag as u64)?;
-    show::number(rt, p.palette_id as u64)?;
-    show::text(rt, b"\n")
+    println!(rt;
+        ", numbers {} {} {} {} {} {} {}",
+        p.width,
+        p.height,
+        p.frame_rate,
+        p.composition_number,
+        p.composition_state,
+        p.palette_update_flag,
+        p.palette_id
+    )
 }
 
 // The head of the segment, and how many bytes it takes.
 fn read_head(rt: &impl Print, bytes: &[u8]) -> io::Result<()> {
-    show::text(rt, b"read back")?;
     match Segment::parse(bytes) {
-        SegmentAnswer::Refused(why) => { show::refusal(rt, why) }
-        SegmentAnswer::Segment(s) => {
+        Err(why) => print!(rt; "read back: refused {}", why.number()),
+        Ok(s) => {
             let head = s.header;
-            show::text(rt, b": PTS")?;
-            show::number(rt, head.pts as u64)?;
-            show::text(rt, b", DTS")?;
-            show::number(rt, head.dts as u64)?;
-            show::text(rt, b", kind")?;
-            show::byte(rt, head.segment_type)?;
-            show::text(rt, b", used")?;
-            show::number(rt, s.used as u64)
+            print!(rt;
+                "read back: PTS {}, DTS {}, kind {:02x}, used {}",
+                head.pts, head.dts, head.segment_type, s.used
+            )
         }
     }
 }
@@ -104,16 +69,15 @@ fn read_head(rt: &impl Print, bytes: &[u8]) -> io::Result<()> {
 fn read_body(rt: &impl Print, body: &[u8], wanted: &[[u16; 10]]) -> io::Result<()> {
     let mut found = [[0u16; 10]; 255];
     match Pcs::parse(body, &mut found) {
-        PcsAnswer::Refused(why) => { show::refusal(rt, why) }
-        PcsAnswer::Placements(pcs, n) => {
+        Err(why) => print!(rt; ": refused {}", why.number()),
+        Ok((pcs, n)) => {
             print_numbers(rt, pcs)?;
-            show::text(rt, b"read back")?;
-            show::number(rt, n as u64)?;
-            if all_equal(&found, n, wanted) {
-                show::text(rt, b" placements, all equal\n")
+            let state = if n == wanted.len() && found.starts_with(wanted) {
+                "all equal"
             } else {
-                show::text(rt, b" placements, NOT equal\n")
-            }
+                "NOT equal"
+            };
+            println!(rt; "read back {n} placements, {state}")
         }
     }
 }
@@ -121,26 +85,17 @@ fn read_body(rt: &impl Print, body: &[u8], wanted: &[[u16; 10]]) -> io::Result<(
 // What was written is read again; what lies behind it is as it was.
 fn read_back(
     rt: &impl Print,
-    answer: WriteAnswer,
+    answer: Result<usize, Refusal>,
     out: &[u8],
     wanted: &[[u16; 10]],
 ) -> io::Result<()> {
     match answer {
-        WriteAnswer::Refused(why) => {
-            show::refusal(rt, why)?;
-            show::text(rt, b",")?;
-            show::unchanged(rt, out)
-        }
-        WriteAnswer::Written(n) => {
-            if n < 13 {
+        Err(why) => show::refused(rt, why, out),
+        Ok(n) => {
+            if n < 13 || out.len() < n {
                 return Ok(());
             }
-            if out.len() < n {
-                return Ok(());
-            }
-            show::text(rt, b": written")?;
-            show::number(rt, n as u64)?;
-            show::text(rt, b" bytes, behind them")?;
+            print!(rt; ": written {n} bytes, behind them")?;
             show::unchanged(rt, &out[n..])?;
             read_head(rt, out)?;
             read_body(rt, &out[13..n], wanted)
@@ -148,19 +103,20 @@ fn read_back(
     }
 }
 
-// Writes the first n signs, and reads them back.
-fn write_signs(rt: &impl Print, title: &[u8], signs: &[[u16; 10]], n: usize) -> io::Result<()> {
-    if signs.len() < n {
-        return Ok(());
-    }
+// Writes the signs, and reads them back.
+fn write_signs(rt: &impl Print, title: &str, signs: &[[u16; 10]]) -> io::Result<()> {
     let mut out = [0xEEu8; 2800];
-    show::text(rt, title)?;
-    let answer = encode_pcs(90000, 45000, numbers(), &signs[..n], &mut out);
-    read_back(rt, answer, &out, &signs[..n])
+    print!(rt; "{title}")?;
+    let times = Timestamps {
+        pts: 90000,
+        dts: 45000,
+    };
+    let answer = encode_pcs(times, numbers(), signs, &mut out);
+    read_back(rt, answer, &out, signs)
 }
 
 pub(crate) fn samples(rt: &impl Print) -> io::Result<()> {
     let signs = sentence();
-    write_signs(rt, b"255 placements", &signs, 255)?;
-    write_signs(rt, b"256 placements", &signs, 256)
+    write_signs(rt, "255 placements", &signs[..255])?;
+    write_signs(rt, "256 placements", &signs)
 }

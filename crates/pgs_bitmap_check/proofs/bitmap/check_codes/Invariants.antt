@@ -6,9 +6,9 @@ use Rattle.pgs_bitmap_check.specs.Bitmap.{reading_of}
 use Rattle.pgs_bitmap_check.specs.Progress.{Untested}
 use Rattle.pgs_bitmap_check.proofs.bitmap.check_codes.Given as goal
 
-abbrev pub invariant-loop-at : goal.invariant-loop-at
-invariant-loop-at l =
-    (Untested l.«data» l.width l.height l.lines l.column l.at (reading_of l.«data» l.width l.height).verdict) × (l.column ≤ 65536 * l.at)
+abbrev pub invariant-loop-place : goal.invariant-loop-place
+invariant-loop-place l =
+    (Untested l.«data» l.size l.place (reading_of l.«data» l.size.width l.size.height).verdict) × (l.place.column ≤ 65536 * l.place.at)
 
-abbrev pub decreases-loop-at : goal.decreases-loop-at
-decreases-loop-at l = length l.«data» - l.at
+abbrev pub decreases-loop-place : goal.decreases-loop-place
+decreases-loop-place l = length l.«data» - l.place.at

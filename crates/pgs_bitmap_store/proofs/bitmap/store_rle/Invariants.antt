@@ -1,4 +1,4 @@
--- `store_rle` meets its contract. The loop's invariant: the pixels of the codes before this place are stored. The measure is what is
+-- `store_rle` meets its contract. The loop's invariant: the pixels of the codes before this spot are stored. The measure is what is
 -- left of the data. Assumes nothing.
 use mathlib.Core.Path.{◌≡◌}
 use Prim.Native.Nat.{◌-◌}
@@ -6,8 +6,8 @@ use lib.ListN.{length}
 use Rattle.pgs_bitmap_store.specs.Progress.{Storing}
 use Rattle.pgs_bitmap_store.proofs.bitmap.store_rle.Given as goal
 
-abbrev pub invariant-loop-at : goal.invariant-loop-at
-invariant-loop-at l = (length l.pixels ≡ length l.initial.pixels) × Storing l.«data» l.pixels l.at l.out
+abbrev pub invariant-loop-spot : goal.invariant-loop-spot
+invariant-loop-spot l = (length l.pixels ≡ length l.initial.pixels) × Storing l.«data» l.pixels l.spot
 
-abbrev pub decreases-loop-at : goal.decreases-loop-at
-decreases-loop-at l = length l.«data» - l.at
+abbrev pub decreases-loop-spot : goal.decreases-loop-spot
+decreases-loop-spot l = length l.«data» - l.spot.at

@@ -20,10 +20,10 @@ pub overflow_sub-memory : goal.overflow_sub-memory
 overflow_sub-memory c = omega (arith, c.loop-from.invariant.inside, c.loop-from.invariant.same)
 
 pub overflow_add-to : goal.overflow_add-to
-overflow_add-to c = omega (arith, c.loop-from.invariant.inside, c.loop-from.invariant.same, c.fewer.ensures.1)
+overflow_add-to c = omega (arith, c.loop-from.invariant.inside, c.loop-from.invariant.same, c.min.ensures)
 
 pub slice_bounds-fill-end : goal.slice_bounds-fill-end
-slice_bounds-fill-end c = omega (arith, c.loop-from.invariant.inside, c.loop-from.invariant.same, c.fewer.ensures.1)
+slice_bounds-fill-end c = omega (arith, c.loop-from.invariant.inside, c.loop-from.invariant.same, c.min.ensures)
 
 pub overflow_add-from : goal.overflow_add-from
 overflow_add-from c = omega (arith, taken-fits c.requires c.loop-from.invariant c.next_run-next.ensures, c.ranges.len)
@@ -32,7 +32,9 @@ pub loop-from-smaller : goal.loop-from-smaller
 loop-from-smaller c = omega (arith, c.next_run-next.ensures.some, c.loop-from-test.true)
 
 pub loop-from-preserved : goal.loop-from-preserved
-loop-from-preserved c = run-stored c.requires c.loop-from.invariant c.next_run-next.ensures _ _ c.fewer.ensures c.fill.ensures
+loop-from-preserved c =
+    run-stored c.requires c.loop-from.invariant c.next_run-next.ensures _ _
+    (omega arith, omega arith, λ h. omega arith) (c.fill.ensures.after (λ y same. same))
 
 pub shape_of-memory : goal.shape_of-memory
 shape_of-memory c = c.loop-from.invariant.same

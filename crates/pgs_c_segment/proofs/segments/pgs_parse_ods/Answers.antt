@@ -9,19 +9,19 @@ use Rattle.pgs_records.specs.declared.BodyList.{BodyList}
 use mathlib.Core.Path.{ap, ◌∙◌}
 use Rattle.pgs_c_segment.proofs.segments.pgs_parse_ods.Goals as goal
 
-pub returns-in-Refused : goal.returns-in-Refused
-returns-in-Refused c =
+pub returns-in-Err : goal.returns-in-Err
+returns-in-Err c =
     let b = c.args.body.now in
-    let e = turned_down (ods_verdict b) (ods_of b, ods_list b) (c.in-Refused.ensures) in
+    let e = turned_down (ods_verdict b) (ods_of b, ods_list b) (c.in-Err.ensures) in
     record {
       code = code-refused e c.number.ensures;
       numbers = stays (ods_cells (ods_of b) (ods_list b)) c.args.ods.now e;
     }
 
-pub returns-in-Fragment : goal.returns-in-Fragment
-returns-in-Fragment c =
+pub returns-in-Ok : goal.returns-in-Ok
+returns-in-Ok c =
     let b = c.args.body.now in
-    let e = c.in-Fragment.ensures in
+    let e = c.in-Ok.ensures in
     let ok = gave (ods_verdict b) (ods_of b, ods_list b) e in
     record {
       code = code-accepted ok;

@@ -8,4 +8,4 @@ pub returns : goal.returns
 returns c =
     let f = pds_segment c.args.pts c.args.dts (pds_from c.args.pds.now) c.args.entries.now in
     told-call (writable f) f (rw c.pds_from.ensures at c.encode_pds.ensures)
-    (c.told.ensures.value, c.told.ensures.written_after)
+    (c.told.ensures.value, c.told.ensures.count_after)

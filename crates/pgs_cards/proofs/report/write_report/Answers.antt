@@ -5,10 +5,10 @@ pub returns-then-s-gt-INPUT_LIMIT : goal.returns-then-s-gt-INPUT_LIMIT
 returns-then-s-gt-INPUT_LIMIT c = text-is (says-too-long c.args.s.now c.if-s-gt-INPUT_LIMIT.true) c.put_text.ensures
 
 pub put_lines-requires : goal.put_lines-requires
-put_lines-requires c = record { s_value = tested-sets c.args.s.now (c.in-Sets.ensures); n_value = tested-count c.args.s.now (c.in-Sets.ensures) }
+put_lines-requires c = record { s_value = tested-sets c.args.s.now (c.in-Ok.ensures); n_value = tested-count c.args.s.now (c.in-Ok.ensures) }
 
-pub returns-in-Refused : goal.returns-in-Refused
-returns-in-Refused c = text-is (says-refusal c.args.s.now c.if-s-gt-INPUT_LIMIT.false (c.in-Refused.ensures) c.number.ensures) c.put_refusal.ensures
+pub returns-in-Err : goal.returns-in-Err
+returns-in-Err c = text-is (says-refusal c.args.s.now c.if-s-gt-INPUT_LIMIT.false (c.in-Err.ensures) c.number.ensures) c.put_refusal.ensures
 
-pub returns-in-Sets : goal.returns-in-Sets
-returns-in-Sets c = text-is (says-cards c.args.s.now c.if-s-gt-INPUT_LIMIT.false (c.in-Sets.ensures)) c.put_lines.ensures
+pub returns-in-Ok : goal.returns-in-Ok
+returns-in-Ok c = text-is (says-cards c.args.s.now c.if-s-gt-INPUT_LIMIT.false (c.in-Ok.ensures)) c.put_lines.ensures

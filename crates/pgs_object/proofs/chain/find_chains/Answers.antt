@@ -1,61 +1,62 @@
+use Rattle.pgs_base.proofs.Outcomes.{passed_on}
 use Rattle.pgs_reassembly.proofs.FindLaws.{finding, finds-here, found_all, finds-on, its-ods, finds-fit, found-refusal, finds-more}
+use Rattle.pgs_set.proofs.OpenLaws.{is-open}
 use Rattle.pgs_set.proofs.SetLaws.{size-read, read-within}
-use Rattle.pgs_object.specs.Answers.{chains_outcome}
 use lib.ListN.{drop}
-use mathlib.Core.Path.{ap}
 use native.Mathlib.Omega.{arith}
+use Rattle.pgs_object.proofs.chain.find_chains.Goals.{then-is_ods+in_ok-n, else-is_ods}
 use Rattle.pgs_object.proofs.chain.find_chains.Goals as goal
 
-pub loop-kind-init : goal.loop-kind-init
-loop-kind-init c = finding c.args.s.now c.args.from c.args.table.now c.requires
+pub loop-s-init : goal.loop-s-init
+loop-s-init c = let set = c.args.set in finding set.stream.now set.from c.args.table.now (is-open set.stream.now set.from set.in_set)
 
 pub returns-then-is_end : goal.returns-then-is_end
-returns-then-is_end c = found_all c.args.s.now c.args.from c.loop-kind.invariant c.header_at-header.ensures c.from_raw-kind.ensures c.is_end.ensures c.if-is_end.true
+returns-then-is_end c = let set = c.args.set in found_all set.stream.now set.from c.loop-s.invariant c.header_at-header.ensures c.from-kind.ensures c.is_end.ensures c.if-is_end.true
 
 pub read_fragment-requires : goal.read_fragment-requires
 read_fragment-requires c =
+    let set = c.args.set in
     record {
-      s_value = finds-here c.args.s.now c.args.from c.loop-kind.invariant;
-      s_value_2 = its-ods c.args.s.now c.args.from c.loop-kind.invariant c.header_at-header.ensures
-          c.from_raw-kind.ensures c.is_end.ensures c.if-is_end.false c.is_ods.ensures c.if-is_ods.true;
-      used_value = size-read (drop c.loop-kind.at c.args.s.now) c.header_at-header.ensures;
+      s_value = finds-here set.stream.now set.from c.loop-s.invariant;
+      s_value_2 = its-ods set.stream.now set.from c.loop-s.invariant c.header_at-header.ensures
+          c.from-kind.ensures c.is_end.ensures c.if-is_end.false c.is_ods.ensures c.if-is_ods.true;
+      used_value = size-read (drop c.loop-s.at set.stream.now) c.header_at-header.ensures;
     }
 
 pub take_fragment-requires : goal.take_fragment-requires
 take_fragment-requires c =
+    let set = c.args.set in
     record {
-      n_in_bounds = c.loop-kind.invariant.holds.within;
+      n_in_bounds = c.loop-s.invariant.holds.within;
       len_bound = omega (
         arith,
         c.well_formed.0,
-        finds-fit c.args.s.now c.args.from c.loop-kind.invariant c.header_at-header.ensures c.from_raw-kind.ensures
+        finds-fit set.stream.now set.from c.loop-s.invariant c.header_at-header.ensures c.from-kind.ensures
             c.is_end.ensures c.if-is_end.false c.is_ods.ensures c.if-is_ods.true c.read_fragment.ensures,
       );
     }
 
-pub returns-in-Refused : goal.returns-in-Refused
-returns-in-Refused c =
-    found-refusal c.args.s.now c.args.from c.loop-kind.invariant c.header_at-header.ensures c.from_raw-kind.ensures
+pub returns-in_err-n : goal.returns-in_err-n
+returns-in_err-n c =
+    let set = c.args.set in
+    rw (passed_on c.from_residual.result _ c.from_residual.ensures.1)
+    (found-refusal set.stream.now set.from c.loop-s.invariant c.header_at-header.ensures c.from-kind.ensures
     c.is_end.ensures c.if-is_end.false c.is_ods.ensures c.if-is_ods.true c.read_fragment.ensures
-    c.take_fragment.auto.table (rw (ap chains_outcome c.in-Refused.is) at c.take_fragment.ensures)
+    c.take_fragment.auto.table c.in_err-n.ensures)
 
-pub overflow_add-at : goal.overflow_add-at
-overflow_add-at c = omega (arith, c.well_formed.0, read-within c.args.s.now c.loop-kind.at (finds-here c.args.s.now c.args.from c.loop-kind.invariant) c.header_at-header.ensures)
+pub loop-s-smaller : goal.loop-s-smaller
+loop-s-smaller c = let set = c.args.set in omega (arith, read-within set.stream.now c.loop-s.at (finds-here set.stream.now set.from c.loop-s.invariant) c.header_at-header.ensures)
 
-pub loop-kind-smaller-in-Chains : goal.loop-kind-smaller-in-Chains
-loop-kind-smaller-in-Chains c = omega (arith, read-within c.args.s.now c.loop-kind.at (finds-here c.args.s.now c.args.from c.loop-kind.invariant) c.header_at-header.ensures)
-
-pub loop-kind-preserved-in-Chains : goal.loop-kind-preserved-in-Chains
-loop-kind-preserved-in-Chains c =
-    finds-more c.args.s.now c.args.from c.loop-kind.invariant c.header_at-header.ensures c.from_raw-kind.ensures
-    c.is_end.ensures c.if-is_end.false c.is_ods.ensures c.if-is_ods.true c.read_fragment.ensures
-    c.take_fragment.auto.table (rw (ap chains_outcome c.in-Chains.is) at c.take_fragment.ensures)
-
-pub overflow_add-at-else-is_ods : goal.overflow_add-at-else-is_ods
-overflow_add-at-else-is_ods c = omega (arith, c.well_formed.0, read-within c.args.s.now c.loop-kind.at (finds-here c.args.s.now c.args.from c.loop-kind.invariant) c.header_at-header.ensures)
-
-pub loop-kind-smaller : goal.loop-kind-smaller
-loop-kind-smaller c = omega (arith, read-within c.args.s.now c.loop-kind.at (finds-here c.args.s.now c.args.from c.loop-kind.invariant) c.header_at-header.ensures)
-
-pub loop-kind-preserved : goal.loop-kind-preserved
-loop-kind-preserved c = finds-on c.args.s.now c.args.from c.loop-kind.invariant c.header_at-header.ensures c.from_raw-kind.ensures c.is_end.ensures c.if-is_end.false c.is_ods.ensures c.if-is_ods.false
+pub loop-s-preserved : goal.loop-s-preserved
+loop-s-preserved c =
+    let set = c.args.set in
+    elim c.if-is_ods.branch [
+      | then-is_ods+in_ok-n w ↦
+          rw (w.table-is, w.n-is)
+          (finds-more set.stream.now set.from c.loop-s.invariant c.header_at-header.ensures c.from-kind.ensures
+          c.is_end.ensures c.if-is_end.false c.is_ods.ensures w.if-is_ods.true w.read_fragment.ensures
+          w.take_fragment.auto.table w.in_ok-n.ensures)
+      | else-is_ods w ↦
+          rw (w.table-is, w.n-is)
+          (finds-on set.stream.now set.from c.loop-s.invariant c.header_at-header.ensures c.from-kind.ensures c.is_end.ensures c.if-is_end.false c.is_ods.ensures w.if-is_ods.false)
+    ]

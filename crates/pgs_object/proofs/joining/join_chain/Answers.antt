@@ -1,6 +1,7 @@
 use Rattle.pgs_reassembly.proofs.JoinLaws.{joining, joins-here, joins-from, joins-to, joins-on, joins-other, joins-past, joined-all}
 use Rattle.pgs_set.proofs.SetLaws.{read-within}
 use native.Mathlib.Omega.{arith}
+use Rattle.pgs_object.proofs.joining.join_chain.Goals.{then-is_ods+then-f-id, then-is_ods+else-f-id, else-is_ods}
 use Rattle.pgs_object.proofs.joining.join_chain.Goals as goal
 
 pub loop-k-init : goal.loop-k-init
@@ -12,7 +13,7 @@ overflow_add-stop c =
       arith,
       c.well_formed.0.0,
       joins-from c.args.s.now c.args.from c.args.id c.loop-k.invariant c.loop-k-test.true c.header_at-header.ensures
-          c.from_raw.ensures c.is_ods.ensures c.if-is_ods.true c.read_fragment-f.ensures c.if-f-id.true,
+          c.from.ensures c.is_ods.ensures c.if-is_ods.true c.read_fragment-f.ensures c.if-f-id.true,
     )
 
 pub overflow_add-end : goal.overflow_add-end
@@ -21,7 +22,7 @@ overflow_add-end c =
       arith,
       c.well_formed.1.1.1.0.0,
       joins-to c.args.s.now c.args.from c.args.id c.loop-k.invariant c.loop-k-test.true c.header_at-header.ensures
-          c.from_raw.ensures c.is_ods.ensures c.if-is_ods.true c.read_fragment-f.ensures c.if-f-id.true,
+          c.from.ensures c.is_ods.ensures c.if-is_ods.true c.read_fragment-f.ensures c.if-f-id.true,
       c.loop-k.invariant.front.same,
     )
 
@@ -35,43 +36,6 @@ overflow_add-at c =
           c.header_at-header.ensures,
     )
 
-pub loop-k-smaller-then-f-id : goal.loop-k-smaller-then-f-id
-loop-k-smaller-then-f-id c = omega (arith, read-within c.args.s.now c.loop-k.at (joins-here c.args.s.now c.args.from c.args.id c.loop-k.invariant c.loop-k-test.true) c.header_at-header.ensures)
-
-pub overflow_add-at-else-f-id : goal.overflow_add-at-else-f-id
-overflow_add-at-else-f-id c =
-    omega (
-      arith,
-      c.well_formed.0.0,
-      read-within c.args.s.now c.loop-k.at
-          (joins-here c.args.s.now c.args.from c.args.id c.loop-k.invariant c.loop-k-test.true)
-          c.header_at-header.ensures,
-    )
-
-pub loop-k-smaller-else-f-id : goal.loop-k-smaller-else-f-id
-loop-k-smaller-else-f-id c = omega (arith, read-within c.args.s.now c.loop-k.at (joins-here c.args.s.now c.args.from c.args.id c.loop-k.invariant c.loop-k-test.true) c.header_at-header.ensures)
-
-pub loop-k-preserved-else-f-id : goal.loop-k-preserved-else-f-id
-loop-k-preserved-else-f-id c =
-    joins-other c.args.s.now c.args.from c.args.id c.loop-k.invariant c.loop-k-test.true c.header_at-header.ensures
-    c.from_raw.ensures c.is_ods.ensures c.if-is_ods.true c.read_fragment-f.ensures c.if-f-id.false
-
-pub overflow_add-at-else-is_ods : goal.overflow_add-at-else-is_ods
-overflow_add-at-else-is_ods c =
-    omega (
-      arith,
-      c.well_formed.0.0,
-      read-within c.args.s.now c.loop-k.at
-          (joins-here c.args.s.now c.args.from c.args.id c.loop-k.invariant c.loop-k-test.true)
-          c.header_at-header.ensures,
-    )
-
-pub loop-k-smaller : goal.loop-k-smaller
-loop-k-smaller c = omega (arith, read-within c.args.s.now c.loop-k.at (joins-here c.args.s.now c.args.from c.args.id c.loop-k.invariant c.loop-k-test.true) c.header_at-header.ensures)
-
-pub loop-k-preserved : goal.loop-k-preserved
-loop-k-preserved c = joins-past c.args.s.now c.args.from c.args.id c.loop-k.invariant c.loop-k-test.true c.header_at-header.ensures c.from_raw.ensures c.is_ods.ensures c.if-is_ods.false
-
 pub returns : goal.returns
 returns c = joined-all c.args.s.now c.args.from c.args.id c.loop-k.invariant c.loop-k-test.false
 
@@ -83,7 +47,7 @@ slice_bounds-copy_from_slice-end c =
     omega (
       arith,
       joins-to c.args.s.now c.args.from c.args.id c.loop-k.invariant c.loop-k-test.true c.header_at-header.ensures
-          c.from_raw.ensures c.is_ods.ensures c.if-is_ods.true c.read_fragment-f.ensures c.if-f-id.true,
+          c.from.ensures c.is_ods.ensures c.if-is_ods.true c.read_fragment-f.ensures c.if-f-id.true,
     )
 
 pub slice_bounds-copy_from_slice-end-then-f-id : goal.slice_bounds-copy_from_slice-end-then-f-id
@@ -91,11 +55,26 @@ slice_bounds-copy_from_slice-end-then-f-id c =
     omega (
       arith,
       joins-from c.args.s.now c.args.from c.args.id c.loop-k.invariant c.loop-k-test.true c.header_at-header.ensures
-          c.from_raw.ensures c.is_ods.ensures c.if-is_ods.true c.read_fragment-f.ensures c.if-f-id.true,
+          c.from.ensures c.is_ods.ensures c.if-is_ods.true c.read_fragment-f.ensures c.if-f-id.true,
     )
 
-pub loop-k-preserved-then-f-id : goal.loop-k-preserved-then-f-id
-loop-k-preserved-then-f-id c =
-    joins-on c.args.s.now c.args.from c.args.id c.loop-k.invariant c.loop-k-test.true c.header_at-header.ensures
-    c.from_raw.ensures c.is_ods.ensures c.if-is_ods.true c.read_fragment-f.ensures c.if-f-id.true
-    c.copy_from_slice.ensures.after
+pub loop-k-smaller : goal.loop-k-smaller
+loop-k-smaller c = omega (arith, read-within c.args.s.now c.loop-k.at (joins-here c.args.s.now c.args.from c.args.id c.loop-k.invariant c.loop-k-test.true) c.header_at-header.ensures)
+
+pub loop-k-preserved : goal.loop-k-preserved
+loop-k-preserved c =
+    let s = c.args.s.now in
+    elim c.if-is_ods.branch [
+      | then-is_ods+then-f-id w ↦
+          rw (w.out-is, w.k-is)
+          (joins-on s c.args.from c.args.id c.loop-k.invariant c.loop-k-test.true c.header_at-header.ensures
+          c.from.ensures c.is_ods.ensures w.if-is_ods.true w.read_fragment-f.ensures w.if-f-id.true
+          w.copy_from_slice.ensures.after)
+      | then-is_ods+else-f-id w ↦
+          rw (w.out-is, w.k-is)
+          (joins-other s c.args.from c.args.id c.loop-k.invariant c.loop-k-test.true c.header_at-header.ensures
+          c.from.ensures c.is_ods.ensures w.if-is_ods.true w.read_fragment-f.ensures w.if-f-id.false)
+      | else-is_ods w ↦
+          rw (w.out-is, w.k-is)
+          (joins-past s c.args.from c.args.id c.loop-k.invariant c.loop-k-test.true c.header_at-header.ensures c.from.ensures c.is_ods.ensures w.if-is_ods.false)
+    ]

@@ -4,17 +4,17 @@ use Rattle.pgs_reassembly.specs.Tables.{joined_in}
 use native.Mathlib.Omega.{arith}
 use Rattle.pgs_object.proofs.listing.check_chains.Goals as goal
 
-pub loop-i-init : goal.loop-i-init
-loop-i-init c = checking c.args.rows.now
+pub loop-row-init : goal.loop-row-init
+loop-row-init c = checking c.args.rows.now
 
-pub returns-then-row-ne1 : goal.returns-then-row-ne1
-returns-then-row-ne1 c = refuses-as (joined_in c.args.rows.now) (checked-open c.args.rows.now c.loop-i.invariant c.loop-i-test.true c.if-row-ne1.true)
+pub returns-then-not-row : goal.returns-then-not-row
+returns-then-not-row c = refuses-as (joined_in c.args.rows.now) (checked-open c.args.rows.now c.loop-row.invariant c.loop-row-test.true c.if-not-row.true)
 
 pub returns-then-row-lt4 : goal.returns-then-row-lt4
-returns-then-row-lt4 c = refuses-as (joined_in c.args.rows.now) (checked-small c.args.rows.now c.loop-i.invariant c.loop-i-test.true c.if-row-ne1.false c.if-row-lt4.true)
+returns-then-row-lt4 c = refuses-as (joined_in c.args.rows.now) (checked-small c.args.rows.now c.loop-row.invariant c.loop-row-test.true c.if-not-row.false c.if-row-lt4.true)
 
 pub returns-then-row : goal.returns-then-row
-returns-then-row c = refuses-as (joined_in c.args.rows.now) (checked-unequal c.args.rows.now c.loop-i.invariant c.loop-i-test.true c.if-row-ne1.false c.if-row-lt4.false c.if-row.true)
+returns-then-row c = refuses-as (joined_in c.args.rows.now) (checked-unequal c.args.rows.now c.loop-row.invariant c.loop-row-test.true c.if-not-row.false c.if-row-lt4.false c.if-row.true)
 
 pub overflow_add-joined : goal.overflow_add-joined
 overflow_add-joined c =
@@ -22,12 +22,12 @@ overflow_add-joined c =
       arith,
       joined-total c.args.rows.now,
       c.requires,
-      (checks-on c.args.rows.now c.loop-i.invariant c.loop-i-test.true c.if-row-ne1.false c.if-row-lt4.false
+      (checks-on c.args.rows.now c.loop-row.invariant c.loop-row-test.true c.if-not-row.false c.if-row-lt4.false
           c.if-row.false c.copied_length-joined.ensures).joins,
     )
 
-pub loop-i-preserved : goal.loop-i-preserved
-loop-i-preserved c = checks-on c.args.rows.now c.loop-i.invariant c.loop-i-test.true c.if-row-ne1.false c.if-row-lt4.false c.if-row.false c.copied_length-joined.ensures
+pub loop-row-preserved : goal.loop-row-preserved
+loop-row-preserved c = checks-on c.args.rows.now c.loop-row.invariant c.loop-row-test.true c.if-not-row.false c.if-row-lt4.false c.if-row.false c.copied_length-joined.ensures
 
 pub returns : goal.returns
-returns c = gives_as (checked c.args.rows.now c.loop-i.invariant c.loop-i-test.false).0 (checked c.args.rows.now c.loop-i.invariant c.loop-i-test.false).1
+returns c = gives_as (checked c.args.rows.now c.loop-row.invariant c.loop-row-test.false).0 (checked c.args.rows.now c.loop-row.invariant c.loop-row-test.false).1

@@ -1,10 +1,5 @@
 use Rattle.pgs_reassembly.proofs.ListingLaws.{Checking}
-use Prim.Native.Nat.{◌-◌}
-use lib.ListN.{length}
 use Rattle.pgs_object.proofs.listing.check_chains.Given as goal
 
-abbrev pub invariant-loop-i : goal.invariant-loop-i
-invariant-loop-i l = Checking l.rows l.i l.joined
-
-abbrev pub decreases-loop-i : goal.decreases-loop-i
-decreases-loop-i l = length l.rows - l.i
+abbrev pub invariant-loop-row : goal.invariant-loop-row
+invariant-loop-row l = Checking l.rows l.row-index l.joined

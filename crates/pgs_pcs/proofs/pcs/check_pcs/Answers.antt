@@ -1,10 +1,12 @@
 -- `check_pcs` tests that the numbers are there, then walks the placements.
 -- Assumes nothing.
-use Rattle.pgs_pcs.proofs.PcsLaws.{short-numbers, as-walked}
+use Rattle.pgs_base.proofs.Outcomes.{passed_on}
+use mathlib.Core.Path.{◌∙◌}
+use Rattle.pgs_pcs.proofs.PcsLaws.{placements-cut, placements-walked}
 use Rattle.pgs_pcs.proofs.pcs.check_pcs.Goals as goal
 
-pub returns-then-body-lt11 : goal.returns-then-body-lt11
-returns-then-body-lt11 c = short-numbers c.args.body.now c.if-body-lt11.true
+pub returns-in_err-len : goal.returns-in_err-len
+returns-in_err-len c = passed_on c.from_residual.result _ c.from_residual.ensures.1 ∙ placements-cut c.args.body.now c.if-body-lt-SIZE.false c.u8_at-count.ensures c.in_err-len.ensures
 
 pub returns : goal.returns
-returns c = as-walked c.args.body.now c.if-body-lt11.false c.u8_at.ensures c.walk_placements.ensures
+returns c = placements-walked c.args.body.now c.if-body-lt-SIZE.false c.u8_at-count.ensures c.in_ok-len.ensures

@@ -7,44 +7,46 @@ use lib.ListN.{get_or}
 use Rattle.pgs_rendering.proofs.PaintLaws.{painting, paints-within, paints-on, painted-all, lent-part}
 use Rattle.pgs_render.proofs.painting.paint_placements.Goals as goal
 
-pub loop-i-init : goal.loop-i-init
-loop-i-init c = painting c.args.placements.now c.args.rows.now c.args.from c.args.scratch.now c.args.table.now c.args.width c.args.height c.args.plane.now
+pub loop-row-init : goal.loop-row-init
+loop-row-init c = painting c.args.placements.now c.args.rows.now c.args.from c.args.scratch.now c.args.table.now c.args.size.width c.args.size.height c.args.plane.now
 
 pub overflow_mul-end : goal.overflow_mul-end
 overflow_mul-end c =
     omega (
       arith,
-      paints-within c.args.placements.now c.args.rows.now c.args.from c.args.scratch.now c.args.table.now c.args.width
-          c.args.height c.args.plane.now c.loop-i.invariant c.requires.rows_in_bounds
-          (get_or (get_or c.args.placements.now c.loop-i.i []) 0 0) c.find_bitmap-bitmap.ensures,
+      paints-within c.args.placements.now c.args.rows.now c.args.from c.args.scratch.now c.args.table.now c.args.size.width
+          c.args.size.height c.args.plane.now c.loop-row.invariant c.requires.rows_in_bounds
+          (get_or (get_or c.args.placements.now c.loop-row.row-index []) 0 0) c.find_bitmap-bitmap.ensures,
     )
 
 pub overflow_add-end : goal.overflow_add-end
 overflow_add-end c =
     omega (
       arith,
-      paints-within c.args.placements.now c.args.rows.now c.args.from c.args.scratch.now c.args.table.now c.args.width
-          c.args.height c.args.plane.now c.loop-i.invariant c.requires.rows_in_bounds
-          (get_or (get_or c.args.placements.now c.loop-i.i []) 0 0) c.find_bitmap-bitmap.ensures,
+      paints-within c.args.placements.now c.args.rows.now c.args.from c.args.scratch.now c.args.table.now c.args.size.width
+          c.args.size.height c.args.plane.now c.loop-row.invariant c.requires.rows_in_bounds
+          (get_or (get_or c.args.placements.now c.loop-row.row-index []) 0 0) c.find_bitmap-bitmap.ensures,
     )
 
-pub slice_bounds-paint_placement-end : goal.slice_bounds-paint_placement-end
-slice_bounds-paint_placement-end c =
+pub slice_bounds-image-end : goal.slice_bounds-image-end
+slice_bounds-image-end c =
     omega (
       arith,
-      paints-within c.args.placements.now c.args.rows.now c.args.from c.args.scratch.now c.args.table.now c.args.width
-          c.args.height c.args.plane.now c.loop-i.invariant c.requires.rows_in_bounds
-          (get_or (get_or c.args.placements.now c.loop-i.i []) 0 0) c.find_bitmap-bitmap.ensures,
+      paints-within c.args.placements.now c.args.rows.now c.args.from c.args.scratch.now c.args.table.now c.args.size.width
+          c.args.size.height c.args.plane.now c.loop-row.invariant c.requires.rows_in_bounds
+          (get_or (get_or c.args.placements.now c.loop-row.row-index []) 0 0) c.find_bitmap-bitmap.ensures,
     )
 
-pub loop-i-preserved : goal.loop-i-preserved
-loop-i-preserved c =
-    paints-on c.args.placements.now c.args.rows.now c.args.from c.args.scratch.now c.args.table.now c.args.width
-    c.args.height c.args.plane.now c.loop-i.invariant c.loop-i-test.true c.requires.rows_in_bounds c.requires.in_bounds
+pub loop-row-preserved : goal.loop-row-preserved
+loop-row-preserved c =
+    paints-on c.args.placements.now c.args.rows.now c.args.from c.args.scratch.now c.args.table.now c.args.size.width
+    c.args.size.height c.args.plane.now c.loop-row.invariant c.loop-row-test.true c.requires.rows_in_bounds c.requires.in_bounds
     c.requires.height_in_bounds c.find_bitmap-bitmap.ensures c.placement_of.ensures
     (lent-part c.find_bitmap-bitmap.result.place
     (c.find_bitmap-bitmap.result.width * c.find_bitmap-bitmap.result.height) c.args.scratch.now)
     c.paint_placement.ensures c.paint_placement.auto.plane
 
 pub returns : goal.returns
-returns c = painted-all c.args.placements.now c.args.rows.now c.args.from c.args.scratch.now c.args.table.now c.args.width c.args.height c.args.plane.now c.loop-i.invariant c.loop-i-test.false
+returns c =
+    painted-all c.args.placements.now c.args.rows.now c.args.from c.args.scratch.now c.args.table.now c.args.size.width
+    c.args.size.height c.args.plane.now c.loop-row.invariant c.loop-row-test.false

@@ -3,7 +3,7 @@ use Rattle.pgs_rendering.proofs.RenderLaws.{listed-narrow, joins, reads-content}
 use Rattle.pgs_render.proofs.render.join_and_read.Goals as goal
 
 pub check_content-requires : goal.check_content-requires
-check_content-requires c = listed-narrow c.args.set c.args.s.now c.requires.listed (λ i. (c.shared_slice_known-1.given i).fits)
+check_content-requires c = listed-narrow c.args.set c.args.s.now c.requires.listed (λ i. (c.type_inv.s i).fits)
 
 pub returns : goal.returns
 returns c =

@@ -2,12 +2,13 @@ use Prim.Native.Nat.{◌*◌}
 use Rattle.pgs_plane.proofs.AreaLaws.{area-fits}
 use mathlib.Core.Path.{sym, ap, ◌∙◌}
 use native.Mathlib.Omega.{arith}
-use Rattle.pgs_bitmap_check.specs.Outcomes.{outcome}
+use Rattle.pgs_base.specs.Outcome.{verdict_of}
+use Rattle.pgs_base.proofs.Outcomes.{passed_verdict}
 use Rattle.pgs_rendering.proofs.RenderLaws.{listed-narrow, listed-total, scratch-short, scratch-room, plane-short, all_room, readied, renders-none, renders-joined, renders-all}
 use Rattle.pgs_render.proofs.render.render_set.Goals as goal
 
 pub objects_fit-requires : goal.objects_fit-requires
-objects_fit-requires c = listed-narrow c.args.set c.args.s.now c.requires.listed (λ i. (c.shared_slice_known-1.given i).fits)
+objects_fit-requires c = listed-narrow c.args.set c.args.s.now c.requires.listed (λ i. (c.type_inv.s i).fits)
 
 pub overflow_mul-pcs-2 : goal.overflow_mul-pcs-2
 overflow_mul-pcs-2 c = omega (arith, area-fits {a = 4 * c.args.pcs.width} {b = c.args.pcs.height} (omega arith) (omega arith))
@@ -54,20 +55,22 @@ show-requires c =
       placed = c.requires.placed;
       ready = readied c.args.set c.args.s.now c.requires.listed c.args.scratch.now c.args.plane.now
           c.objects_fit.ensures c.if-not-objects_fit.false c.requires.placed c.if-plane-pcs.false
-          c.join_and_read.ensures (ap outcome c.in-Accepted.is) c.join_and_read.auto.scratch
+          c.join_and_read.ensures (ap verdict_of c.in_ok-join_and_read.was) c.join_and_read.auto.scratch
           c.joined_total-joined.ensures;
     }
 
-pub returns-in-Refused : goal.returns-in-Refused
-returns-in-Refused c =
-    renders-joined c.args.set c.args.s.now
+pub returns-in_err-join_and_read : goal.returns-in_err-join_and_read
+returns-in_err-join_and_read c =
+    let e = c.join_and_read.ensures in
+    rw (passed_verdict c.from_residual.result _ c.from_residual.ensures.1)
+    (renders-joined c.args.set c.args.s.now
     (all_room c.args.set c.args.s.now c.requires.listed c.args.scratch.now c.args.plane.now c.objects_fit.ensures
     c.if-not-objects_fit.false c.requires.placed c.if-plane-pcs.false)
-    (sym c.join_and_read.ensures.content ∙ ap outcome c.in-Refused.is) c.join_and_read.ensures.joined
+    (sym e.content ∙ ap verdict_of c.in_err-join_and_read.was) e.joined)
 
-pub returns-in-Accepted : goal.returns-in-Accepted
-returns-in-Accepted c =
+pub returns : goal.returns
+returns c =
     renders-all c.args.set c.args.s.now
     (all_room c.args.set c.args.s.now c.requires.listed c.args.scratch.now c.args.plane.now c.objects_fit.ensures
     c.if-not-objects_fit.false c.requires.placed c.if-plane-pcs.false)
-    (sym c.join_and_read.ensures.content ∙ ap outcome c.in-Accepted.is) c.join_and_read.ensures.joined c.show.ensures
+    (sym c.join_and_read.ensures.content ∙ ap verdict_of c.in_ok-join_and_read.was) c.join_and_read.ensures.joined c.show.ensures

@@ -7,4 +7,4 @@ pub returns-then-second-eq0 : goal.returns-then-second-eq0
 returns-then-second-eq0 c = escape-line-end c.args.«data».now c.args.at (omega arith) c.if-second-eq0.true
 
 pub returns : goal.returns
-returns c = escape-among c.args.«data».now c.args.at (omega arith) c.if-second-eq0.false c.run_of-run.ensures
+returns c = escape-among c.args.«data».now c.args.at (omega arith) c.if-second-eq0.false c.run_of.ensures

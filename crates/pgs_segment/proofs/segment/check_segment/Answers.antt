@@ -1,7 +1,7 @@
 -- `check_segment` tests the head, the size and the body, in this order.
 -- Assumes nothing.
 use Prim.Native.Nat.{ℕ}
-use Rattle.pgs_base.proofs.Outcomes.{gave, gave-value, turned_down, gives_as, refuses-as}
+use Rattle.pgs_base.proofs.Outcomes.{gave, gave-value, turned_down, gives_as, refuses-as, passed_on}
 use Rattle.pgs_base.specs.Outcome.{gives, outcome_of, accepted}
 use Rattle.pgs_segment.proofs.SegmentLaws.{has-header, head-decides, body-past-end, body-decides, lent-body}
 use Rattle.pgs_segment.specs.Fields.{body_verdict, body_list}
@@ -26,31 +26,36 @@ module _ (l : List ℕ) {h : SegmentHeader} (e : gives h ≡ outcome_of (header_
   kind-is = ap (λ (x : SegmentHeader). x.segment_type) (gave-value (header_verdict l) (header_fields l) e)
 
 pub overflow_sub-buf : goal.overflow_sub-buf
-overflow_sub-buf c = has-header c.args.buf.now (ok c.args.buf.now (c.in-Header.ensures))
+overflow_sub-buf c = has-header c.args.buf.now (ok c.args.buf.now (c.in_ok-header.ensures))
 
 pub returns-then-buf-size : goal.returns-then-buf-size
-returns-then-buf-size c = let l = c.args.buf.now in let e = (c.in-Header.ensures) in refuses-as (frame_of l) (body-past-end l (ok l e) (rw (← size_is l e) c.if-buf-size.true))
+returns-then-buf-size c = let l = c.args.buf.now in let e = (c.in_ok-header.ensures) in refuses-as (frame_of l) (body-past-end l (ok l e) (rw (← size_is l e) c.if-buf-size.true))
 
 pub slice_bounds-check_body-end : goal.slice_bounds-check_body-end
-slice_bounds-check_body-end c = let l = c.args.buf.now in omega (arith, has-header l (ok l (c.in-Header.ensures)), c.if-buf-size.false)
+slice_bounds-check_body-end c = let l = c.args.buf.now in omega (arith, has-header l (ok l (c.in_ok-header.ensures)), c.if-buf-size.false)
 
-pub returns-in-Refused : goal.returns-in-Refused
-returns-in-Refused c = let l = c.args.buf.now in refuses-as (frame_of l) (head-decides l (turned_down (header_verdict l) (header_fields l) (c.in-Refused.ensures)))
-
-pub returns-in-Refused-check_body : goal.returns-in-Refused-check_body
-returns-in-Refused-check_body c =
+pub returns-in_err-header : goal.returns-in_err-header
+returns-in_err-header c =
     let l = c.args.buf.now in
-    let e = (c.in-Header.ensures) in
-    refuses-as (frame_of l)
+    passed_on c.from_residual.result _ c.from_residual.ensures.1
+    ∙ refuses-as (frame_of l)
+    (head-decides l (turned_down (header_verdict l) (header_fields l) (c.in_err-header.ensures)))
+
+pub returns-in_err-list : goal.returns-in_err-list
+returns-in_err-list c =
+    let l = c.args.buf.now in
+    let e = (c.in_ok-header.ensures) in
+    passed_on c.from_residual-in_err-list.result _ c.from_residual-in_err-list.ensures.1
+    ∙ refuses-as (frame_of l)
     (body-decides l (ok l e) (rw (← size_is l e) c.if-buf-size.false)
     ∙ turned_down (body_verdict (segment_type l) (body_at l)) (body_list (segment_type l) (body_at l))
-    (lent-body l (c.from_raw-kind.ensures ∙ ap type_of (kind-is l e)) (size_is l e) (c.in-Refused-check_body.ensures)))
+    (lent-body l (c.from-kind.ensures ∙ ap type_of (kind-is l e)) (size_is l e) (c.in_err-list.ensures)))
 
-pub returns-in-List : goal.returns-in-List
-returns-in-List c =
+pub returns : goal.returns
+returns c =
     let l = c.args.buf.now in
-    let e = (c.in-Header.ensures) in
-    let q = lent-body l (c.from_raw-kind.ensures ∙ ap type_of (kind-is l e)) (size_is l e) (c.in-List.ensures) in
+    let e = (c.in_ok-header.ensures) in
+    let q = lent-body l (c.from-kind.ensures ∙ ap type_of (kind-is l e)) (size_is l e) (c.in_ok-list.ensures) in
     gives_as
     (body-decides l (ok l e) (rw (← size_is l e) c.if-buf-size.false)
     ∙ gave (body_verdict (segment_type l) (body_at l)) (body_list (segment_type l) (body_at l)) q)

@@ -1,9 +1,5 @@
 use Rattle.pgs_set.proofs.SetLaws.{Storing}
-use Prim.Native.Nat.{◌-◌}
 use Rattle.pgs_set.proofs.set.fill_sets.Given as goal
 
-abbrev pub invariant-loop-i : goal.invariant-loop-i
-invariant-loop-i l = Storing l.s l.n l.initial.sets l.sets l.i l.at
-
-abbrev pub decreases-loop-i : goal.decreases-loop-i
-decreases-loop-i l = l.n - l.i
+abbrev pub invariant-loop-row : goal.invariant-loop-row
+invariant-loop-row l = Storing l.s l.n l.initial.row-items l.row-items l.row-index l.at

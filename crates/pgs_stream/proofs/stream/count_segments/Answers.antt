@@ -1,26 +1,26 @@
 -- `count_segments` reads on until the end or a refusal: the loop keeps `Counting`.
 -- Assumes nothing.
 use Prim.Native.Nat.{◌+◌}
-use Rattle.pgs_base.proofs.Outcomes.{gave, gave-value, turned_down, gives_as, refuses-as}
+use Rattle.pgs_base.proofs.Outcomes.{gave, gave-value, turned_down, gives_as, refuses-as, passed_on}
 use Rattle.pgs_stream.proofs.StreamLaws.{step-accepted, step-refused, frame_at, Counting, counting, counts-on, counted-refusal, counted-all, counted}
 use Rattle.pgs_segment.specs.Header.{size_of}
 use Rattle.pgs_segment.specs.OneSegment.{segment_verdict, frame_of}
 use Rattle.pgs_stream.specs.Stream.{segment_count}
 use Rattle.pgs_segment.specs.declared.segment.Frame.{Frame}
 use lib.ListN.{drop}
-use mathlib.Core.Path.{◌≡◌, ap}
+use mathlib.Core.Path.{◌≡◌, ap, ◌∙◌}
 use native.Mathlib.Omega.{arith}
 use Rattle.pgs_stream.proofs.stream.count_segments.Goals.{Else-used-eq0}
 use Rattle.pgs_stream.proofs.stream.count_segments.Goals as goal
 
 -- after a segment the counting goes on behind it
 on : (c : Else-used-eq0)
-    → Counting c.args.s.now (c.loop-at.at + (13 + c.in-Framed.frame.header.segment_size)) (c.loop-at.n + 1)
+    → Counting c.args.s.now (c.loop-at.at + (13 + c.in_ok-frame.frame.header.segment_size)) (c.loop-at.n + 1)
 on c =
     let s = c.args.s.now in
     let l = drop c.loop-at.at s in
-    let e = (frame_at c.args.s.now c.loop-at.at (c.in-Framed.ensures)) in
-    let size : c.in-Framed.frame.header.segment_size ≡ size_of l
+    let e = (frame_at c.args.s.now c.loop-at.at (c.in_ok-frame.ensures)) in
+    let size : c.in_ok-frame.frame.header.segment_size ≡ size_of l
     = ap (λ (f : Frame). f.header.segment_size) (gave-value (segment_verdict l) (frame_of l) e) in
     rw size (counts-on s c.loop-at.invariant (step-accepted l (gave (segment_verdict l) (frame_of l) e)))
 
@@ -33,14 +33,15 @@ slice_bounds-check_segment-count c = c.loop-at.invariant.inside
 pub slice_bounds-check_segment-start : goal.slice_bounds-check_segment-start
 slice_bounds-check_segment-start c = omega (arith, c.loop-at.invariant.inside)
 
-pub returns-in-Refused : goal.returns-in-Refused
-returns-in-Refused c =
+pub returns-in_err-frame : goal.returns-in_err-frame
+returns-in_err-frame c =
     let s = c.args.s.now in
     let l = drop c.loop-at.at s in
-    refuses-as (segment_count s)
+    passed_on c.from_residual.result _ c.from_residual.ensures.1
+    ∙ refuses-as (segment_count s)
     (counted-refusal s c.loop-at.invariant c.loop-at-test.true
     (step-refused l
-    (turned_down (segment_verdict l) (frame_of l) (frame_at c.args.s.now c.loop-at.at (c.in-Refused.ensures)))))
+    (turned_down (segment_verdict l) (frame_of l) (frame_at c.args.s.now c.loop-at.at (c.in_err-frame.ensures)))))
 
 pub returns-then-used-eq0 : goal.returns-then-used-eq0
 returns-then-used-eq0 c = absurd (omega (arith, c.if-used-eq0.true))

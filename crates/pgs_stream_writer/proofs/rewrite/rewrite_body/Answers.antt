@@ -33,19 +33,19 @@ pub rewrite_wds-requires : goal.rewrite_wds-requires
 rewrite_wds-requires c = verdict-at c.args.body.now c.in-Wds.is c.requires.body_value
 
 pub returns-in-Pds : goal.returns-in-Pds
-returns-in-Pds c = write-at c.args.pts c.args.dts c.args.body.now c.in-Pds.is c.rewrite_pds.ensures
+returns-in-Pds c = write-at c.args.times.pts c.args.times.dts c.args.body.now c.in-Pds.is c.rewrite_pds.ensures
 
 pub returns-in-Ods : goal.returns-in-Ods
-returns-in-Ods c = write-at c.args.pts c.args.dts c.args.body.now c.in-Ods.is c.rewrite_ods.ensures
+returns-in-Ods c = write-at c.args.times.pts c.args.times.dts c.args.body.now c.in-Ods.is c.rewrite_ods.ensures
 
 pub returns-in-Pcs : goal.returns-in-Pcs
-returns-in-Pcs c = write-at c.args.pts c.args.dts c.args.body.now c.in-Pcs.is c.rewrite_pcs.ensures
+returns-in-Pcs c = write-at c.args.times.pts c.args.times.dts c.args.body.now c.in-Pcs.is c.rewrite_pcs.ensures
 
 pub returns-in-Wds : goal.returns-in-Wds
-returns-in-Wds c = write-at c.args.pts c.args.dts c.args.body.now c.in-Wds.is c.rewrite_wds.ensures
+returns-in-Wds c = write-at c.args.times.pts c.args.times.dts c.args.body.now c.in-Wds.is c.rewrite_wds.ensures
 
 pub returns-in-End : goal.returns-in-End
-returns-in-End c = write-at c.args.pts c.args.dts c.args.body.now c.in-End.is c.encode_end.ensures
+returns-in-End c = write-at c.args.times.pts c.args.times.dts c.args.body.now c.in-End.is c.encode_end.ensures
 
 pub returns-in-Other : goal.returns-in-Other
-returns-in-Other c = write-at c.args.pts c.args.dts c.args.body.now c.in-Other.is c.encode_other.ensures
+returns-in-Other c = write-at c.args.times.pts c.args.times.dts c.args.body.now c.in-Other.is c.encode_other.ensures

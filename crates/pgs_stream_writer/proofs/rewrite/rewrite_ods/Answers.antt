@@ -21,20 +21,20 @@ start-within b v e =
     omega (arith, has-dimensions b v, ap (λ (x : Ods × BodyList). x.1.start) (gave-value (ods_verdict b) (ods_of b, ods_list b) e))
 
 pub slice_bounds-encode_ods-count : goal.slice_bounds-encode_ods-count
-slice_bounds-encode_ods-count c = start-within c.args.body.now c.requires (c.in-Fragment.ensures)
+slice_bounds-encode_ods-count c = start-within c.args.body.now c.requires (c.in_ok-ods.ensures)
 
 pub slice_bounds-encode_ods-start : goal.slice_bounds-encode_ods-start
-slice_bounds-encode_ods-start c = omega (arith, start-within c.args.body.now c.requires (c.in-Fragment.ensures))
+slice_bounds-encode_ods-start c = omega (arith, start-within c.args.body.now c.requires (c.in_ok-ods.ensures))
 
-pub returns-in-Refused : goal.returns-in-Refused
-returns-in-Refused c =
+pub returns-in_err-ods : goal.returns-in_err-ods
+returns-in_err-ods c =
     let b = c.args.body.now in
-    absurd (not-both c.requires (turned_down (ods_verdict b) (ods_of b, ods_list b) (c.in-Refused.ensures)))
+    absurd (not-both c.requires (turned_down (ods_verdict b) (ods_of b, ods_list b) (c.in_err-ods.ensures)))
 
-pub returns-in-Fragment : goal.returns-in-Fragment
-returns-in-Fragment c =
+pub returns : goal.returns
+returns c =
     let b = c.args.body.now in
-    let r = gave-value (ods_verdict b) (ods_of b, ods_list b) (c.in-Fragment.ensures) in
+    let r = gave-value (ods_verdict b) (ods_of b, ods_list b) (c.in_ok-ods.ensures) in
     same_write
-    (ods-again b c.args.pts c.args.dts (ap (λ (x : Ods × BodyList). x.0) r) (ap (λ (x : Ods × BodyList). x.1.start) r))
+    (ods-again b c.args.times.pts c.args.times.dts (ap (λ (x : Ods × BodyList). x.0) r) (ap (λ (x : Ods × BodyList). x.1.start) r))
     c.encode_ods.ensures

@@ -1,4 +1,4 @@
-use Rattle.pgs_pds.specs.PdsBody.{entry_row, entries_of, pds_outcome}
+use Rattle.pgs_pds.specs.PdsBody.{entry_row, entries_of}
 use Rattle.pgs_stream_writer.proofs.ReadAgain.{never-refused, room, front_length, read_again, same_write, entry-back, entry-list, entry-count, few-entries, pds-again}
 use Rattle.pgs_writer_base.specs.Rows.{entry_from}
 use Rattle.pgs_base.proofs.Outcomes.{delivered-value}
@@ -11,27 +11,27 @@ use Rattle.pgs_stream_writer.proofs.rewrite.rewrite_pds.Goals as goal
 pub slice_bounds-entries-end : goal.slice_bounds-entries-end
 slice_bounds-entries-end c =
     let b = c.args.body.now in
-    let r = rw (ap pds_outcome c.in-Entries.is) at c.parse.ensures in
+    let r = c.in_ok-pds.ensures in
     room entry_row (entries_of b) (entry-list b) r (ap (λ (x : Pds × ℕ). x.1) (delivered-value r) ∙ entry-count b)
 
 pub slice_bounds-encode_pds-end : goal.slice_bounds-encode_pds-end
 slice_bounds-encode_pds-end c =
     let b = c.args.body.now in
-    let r = rw (ap pds_outcome c.in-Entries.is) at c.parse.ensures in
+    let r = c.in_ok-pds.ensures in
     front_length entry_row (entries_of b) (entry-list b) r (ap (λ (x : Pds × ℕ). x.1) (delivered-value r) ∙ entry-count b)
 
-pub returns-in-Refused : goal.returns-in-Refused
-returns-in-Refused c =
+pub returns-in_err-pds : goal.returns-in_err-pds
+returns-in_err-pds c =
     let b = c.args.body.now in
     absurd
     (never-refused entry_row (entries_of b) (entry-list b) c.requires.body_value (few-entries b c.requires.body_len_bound)
-    (rw (ap pds_outcome c.in-Refused.is) at c.parse.ensures))
+    c.in_err-pds.ensures)
 
-pub returns-in-Entries : goal.returns-in-Entries
-returns-in-Entries c =
+pub returns : goal.returns
+returns c =
     let b = c.args.body.now in
-    let r = rw (ap pds_outcome c.in-Entries.is) at c.parse.ensures in
+    let r = c.in_ok-pds.ensures in
     same_write
-    (pds-again b c.args.pts c.args.dts (take c.in-Entries.n c.parse.new.entries) (ap (λ (x : Pds × ℕ). x.0) (delivered-value r))
+    (pds-again b c.args.times.pts c.args.times.dts (take c.in_ok-pds.n c.parse.new.entries) (ap (λ (x : Pds × ℕ). x.0) (delivered-value r))
     (read_again entry_row (entries_of b) (entry-list b) r entry_from entry-back (ap (λ (x : Pds × ℕ). x.1) (delivered-value r) ∙ entry-count b)))
     c.encode_pds.ensures

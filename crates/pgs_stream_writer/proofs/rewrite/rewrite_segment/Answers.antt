@@ -29,21 +29,21 @@ size_small : (l : List ℕ) (n : ℕ) → n < 65536 → length (take (13 + n - 1
 size_small l n h = omega (arith, length-take (13 + n - 13) (drop 13 l))
 
 pub slice_bounds-rewrite_body-end : goal.slice_bounds-rewrite_body-end
-slice_bounds-rewrite_body-end c = let l = c.args.l.now in omega (arith, head-size l (c.in-Header.ensures), accepted-size l c.requires)
+slice_bounds-rewrite_body-end c = let l = c.args.l.now in omega (arith, head-size l (c.in_ok-head.ensures), accepted-size l c.requires)
 
 pub rewrite_body-requires : goal.rewrite_body-requires
 rewrite_body-requires c =
     let l = c.args.l.now in
-    let e = (c.in-Header.ensures) in
-    let f : Fits w16 c.in-Header.head.segment_size = search rules in
-    record { body_value = lent-verdict l (c.from_raw-kind.ensures ∙ head-kind l e) (head-size l e) (accepted-body l c.requires); body_len_bound = size_small l c.in-Header.head.segment_size f.fits }
+    let e = (c.in_ok-head.ensures) in
+    let f : Fits w16 c.in_ok-head.head.segment_size = search rules in
+    record { body_value = lent-verdict l (c.from-kind.ensures ∙ head-kind l e) (head-size l e) (accepted-body l c.requires); body_len_bound = size_small l c.in_ok-head.head.segment_size f.fits }
 
-pub returns-in-Refused : goal.returns-in-Refused
-returns-in-Refused c =
+pub returns-in_err-head : goal.returns-in_err-head
+returns-in_err-head c =
     let l = c.args.l.now in
-    absurd (not-both (accepted-head l c.requires) (turned_down (header_verdict l) (header_fields l) (c.in-Refused.ensures)))
+    absurd (not-both (accepted-head l c.requires) (turned_down (header_verdict l) (header_fields l) (c.in_err-head.ensures)))
 
-pub returns-in-Header : goal.returns-in-Header
-returns-in-Header c =
+pub returns : goal.returns
+returns c =
     let l = c.args.l.now in
-    same_write (segment-again l (gave-value (header_verdict l) (header_fields l) (c.in-Header.ensures)) c.from_raw-kind.ensures) c.rewrite_body.ensures
+    same_write (segment-again l (gave-value (header_verdict l) (header_fields l) (c.in_ok-head.ensures)) c.from-kind.ensures) c.rewrite_body.ensures

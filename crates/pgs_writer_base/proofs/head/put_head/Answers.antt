@@ -7,10 +7,10 @@ use Rattle.pgs_writer_base.proofs.head.put_head.Goals as goal
 
 pub returns : goal.returns
 returns c =
-    (wrote c.args.out.now 0 ((1, 0x50) ∷ (1, 0x47) ∷ (4, c.args.pts) ∷ (4, c.args.dts) ∷ (1, c.args.kind) ∷ []) 2
+    (wrote c.args.out.now 0 ((1, 0x50) ∷ (1, 0x47) ∷ (4, c.args.times.pts) ∷ (4, c.args.times.dts) ∷ (1, c.args.kind) ∷ []) 2
     c.args.size
-    (wrote c.args.out.now 0 ((1, 0x50) ∷ (1, 0x47) ∷ (4, c.args.pts) ∷ (4, c.args.dts) ∷ []) 1 c.args.kind
-    (wrote c.args.out.now 0 ((1, 0x50) ∷ (1, 0x47) ∷ (4, c.args.pts) ∷ []) 4 c.args.dts
-    (wrote c.args.out.now 0 ((1, 0x50) ∷ (1, 0x47) ∷ []) 4 c.args.pts
+    (wrote c.args.out.now 0 ((1, 0x50) ∷ (1, 0x47) ∷ (4, c.args.times.pts) ∷ (4, c.args.times.dts) ∷ []) 1 c.args.kind
+    (wrote c.args.out.now 0 ((1, 0x50) ∷ (1, 0x47) ∷ (4, c.args.times.pts) ∷ []) 4 c.args.times.dts
+    (wrote c.args.out.now 0 ((1, 0x50) ∷ (1, 0x47) ∷ []) 4 c.args.times.pts
     (wrote c.args.out.now 0 ((1, 0x50) ∷ []) 1 0x47 c.put_u8.ensures refl c.put_u8-2.ensures) refl c.put_u32.ensures)
     refl c.put_u32-2.ensures) refl c.put_u8-3.ensures) refl c.put_u16.ensures)

@@ -1,30 +1,34 @@
 -- `placements_size` adds the sizes up: the loop keeps `Measuring`.
 -- Assumes nothing.
-use Rattle.pgs_writer_base.proofs.EachLaws.{measuring, measures, within, measured}
+use Rattle.std.proofs.Common.{rules}
+use Prim.Native.Nat.{ℕ}
+use Rattle.pgs_writer_base.proofs.EachLaws.{bytes-map, measures, measured}
 use Rattle.pgs_writer_base.proofs.PlacementLaws.{rows-most}
 use Rattle.pgs_encoding.specs.Encode.{placement_fields}
 use Rattle.pgs_writer_base.specs.Rows.{placement_from}
+use lib.ListN.{length, get_or}
+use mathlib.Core.List.{List, []}
+use mathlib.Core.Path.{◌≡◌, ap, ◌∙◌}
 use native.Mathlib.Omega.{arith}
 use Rattle.pgs_writer_pcs.proofs.pcs.placements_size.Goals as goal
 
-pub loop-i-init : goal.loop-i-init
-loop-i-init c = measuring placement_from c.args.placements.now placement_fields 0
-
-pub bounds-placements-i : goal.bounds-placements-i
-bounds-placements-i c = c.loop-i-test.true
-
 pub overflow_add-size : goal.overflow_add-size
 overflow_add-size c =
+    let rows = c.args.placements.now in
+    let fields = λ (r : List ℕ). placement_fields (placement_from r) in
+    let row = get_or rows c.loop-placement.placement-index [] in
+    let read : row ≡ get_or rows c.loop-placement.placement-index row = search rules in
     omega (
       arith,
-      within placement_from c.args.placements.now placement_fields 0 c.loop-i.invariant c.loop-i-test.true,
-      rows-most c.args.placements.now,
-      c.placement_size-size.ensures,
+      (measures rows fields c.loop-placement.invariant c.loop-placement-test.true read c.size-size.ensures.value).reach,
+      ap length (bytes-map placement_from placement_fields rows),
+      rows-most rows,
       c.requires,
     )
 
-pub loop-i-preserved : goal.loop-i-preserved
-loop-i-preserved c = measures placement_from c.args.placements.now placement_fields 0 c.loop-i.invariant c.loop-i-test.true c.placement_size-size.ensures
-
 pub returns : goal.returns
-returns c = omega (arith, measured placement_from c.args.placements.now placement_fields 0 c.loop-i.invariant c.loop-i-test.false)
+returns c =
+    let rows = c.args.placements.now in
+    let e : c.loop-placement.placement-index ≡ length rows = omega arith in
+    measured rows (λ (r : List ℕ). placement_fields (placement_from r)) (rw e at c.loop-placement.invariant)
+    ∙ ap length (bytes-map placement_from placement_fields rows)

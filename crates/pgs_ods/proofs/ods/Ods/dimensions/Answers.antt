@@ -7,8 +7,8 @@ use Rattle.pgs_ods.proofs.ods.Ods.dimensions.Goals as goal
 
 pub returns-then-is_first : goal.returns-then-is_first
 returns-then-is_first c =
-    present c.args.body.now (c.is_first.ensures ∙ ap is_first (c.from_raw.ensures ∙ ap fragment_of c.u8_at.ensures))
+    present c.args.body.now (c.is_first.ensures ∙ ap is_first (c.from.ensures ∙ ap fragment_of c.u8_at.ensures))
     c.if-is_first.true c.u16_at.ensures c.u16_at-then-is_first.ensures
 
 pub returns-else-is_first : goal.returns-else-is_first
-returns-else-is_first c = absent c.args.body.now (c.is_first.ensures ∙ ap is_first (c.from_raw.ensures ∙ ap fragment_of c.u8_at.ensures)) c.if-is_first.false
+returns-else-is_first c = absent c.args.body.now (c.is_first.ensures ∙ ap is_first (c.from.ensures ∙ ap fragment_of c.u8_at.ensures)) c.if-is_first.false

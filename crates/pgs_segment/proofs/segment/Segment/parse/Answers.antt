@@ -1,7 +1,7 @@
 -- `Segment::parse` gives what `check_segment` found and the body's numbers.
 -- Assumes nothing.
 use Prim.Native.Nat.{ℕ, ◌+◌}
-use Rattle.pgs_base.proofs.Outcomes.{gave, gave-value, turned_down, gives_as, refuses-as}
+use Rattle.pgs_base.proofs.Outcomes.{gave, gave-value, turned_down, gives_as, refuses-as, passed_on}
 use Rattle.pgs_base.specs.Outcome.{gives, outcome_of, accepted}
 use Rattle.pgs_segment.proofs.SegmentLaws.{lent-numbers, accepted-size}
 use Rattle.pgs_segment.specs.Header.{size_of, kind_of}
@@ -28,19 +28,21 @@ module _ (l : List ℕ) {f : Frame} (e : gives f ≡ outcome_of (segment_verdict
   kind-is = ap (λ (x : Frame). x.header.segment_type) frame_is
 
 pub slice_bounds-numbers-end : goal.slice_bounds-numbers-end
-slice_bounds-numbers-end c = let l = c.args.buf.now in omega (arith, accepted-size l (ok l (c.in-Framed.ensures)), size_is l (c.in-Framed.ensures))
+slice_bounds-numbers-end c = let l = c.args.buf.now in omega (arith, accepted-size l (ok l (c.in_ok-frame.ensures)), size_is l (c.in_ok-frame.ensures))
 
-pub returns-in-Refused : goal.returns-in-Refused
-returns-in-Refused c = let l = c.args.buf.now in refuses-as (segment_of l) (turned_down (segment_verdict l) (frame_of l) (c.in-Refused.ensures))
-
-pub returns-in-Framed : goal.returns-in-Framed
-returns-in-Framed c =
+pub returns : goal.returns
+returns c =
     let l = c.args.buf.now in
-    let e = (c.in-Framed.ensures) in
+    let e = (c.in_ok-frame.ensures) in
     gives_as (ok l e)
     (λ j. record {
       header = (frame_is l e j).header;
-      body = lent-numbers l (c.from_raw-kind.ensures ∙ ap type_of (kind-is l e)) (size_is l e) c.numbers-body.ensures j;
+      body = lent-numbers l (c.from-kind.ensures ∙ ap type_of (kind-is l e)) (size_is l e) c.numbers-body.ensures j;
       list = (frame_is l e j).list;
       used = 13 + size_is l e j;
     })
+
+pub returns-in_err-frame : goal.returns-in_err-frame
+returns-in_err-frame c =
+    let l = c.args.buf.now in
+    passed_on c.from_residual.result _ c.from_residual.ensures.1 ∙ refuses-as (segment_of l) (turned_down (segment_verdict l) (frame_of l) (c.in_err-frame.ensures))

@@ -1,0 +1,23 @@
+-- `store_color` meets its contract: by the run, then by the pixel. Assumes nothing.
+use mathlib.Core.List.{[], ◌∷◌}
+use Prim.Native.Nat.{◌+◌}
+use native.Mathlib.Omega.{arith}
+use lib.ListN.{get_or}
+use Rattle.pgs_run_length.proofs.OneCode.{run-short-color}
+use Rattle.pgs_bitmap_store.proofs.BitmapStores.{storing-escape}
+use Rattle.pgs_bitmap_store.proofs.bitmap.Spot.store_color.Goals as goal
+
+pub store_literal-requires : goal.store_literal-requires
+store_literal-requires c =
+    let l = c.args.«data».now in
+    let at = c.args.self.at in
+    let low = c.short_count-count.ensures in
+    let filled = c.fill_short in
+    let next = c.further.ensures in
+    rw next (
+      omega arith,
+      omega (arith, low, filled.auto.pixels),
+      storing-escape c.requires.5 (omega arith) c.requires.1
+          (run-short-color (get_or l (at + 1) 0) _ (get_or l (at + 2) 0 ∷ get_or l (at + 3) 0 ∷ []) low (omega arith) c.requires.2 c.requires.3)
+          filled.auto.pixels filled.ensures,
+    )

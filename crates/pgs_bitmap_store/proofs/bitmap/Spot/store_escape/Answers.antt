@@ -1,0 +1,37 @@
+-- `store_escape` meets its contract, by the second byte of the code. Assumes nothing.
+use mathlib.Core.Path.{refl, ◌∙◌, ap}
+use mathlib.Core.List.{[], ◌∷◌}
+use Prim.Native.Nat.{ℕ, ◌+◌}
+use native.Mathlib.Omega.{arith}
+use lib.ListN.{get_or}
+use Rattle.pgs_run_length.specs.RunLength.{run, found}
+use Rattle.pgs_run_length.proofs.OneCode.{run-short-zero, run-long-color}
+use Rattle.pgs_bitmap_store.proofs.BitmapStores.{block-fills, storing-escape}
+use Rattle.pgs_bitmap_store.proofs.bitmap.Spot.store_escape.Goals as goal
+
+pub store_stroke-requires : goal.store_stroke-requires
+store_stroke-requires c =
+    let l = c.args.«data».now in
+    let at = c.args.self.at in
+    let low = c.short_count.ensures in
+    let block = c.fill_exactly in
+    let next = c.further.ensures in
+    rw next (
+      omega arith,
+      omega (arith, low, block.auto.pixels),
+      storing-escape c.requires.3 (omega arith) c.requires.1
+          (run-short-zero (get_or l (at + 1) 0) _ (get_or l (at + 2) 0 ∷ get_or l (at + 3) 0 ∷ []) low c.if-second-lt64.true)
+          block.auto.pixels (block-fills 64 (omega (arith, low)) (omega arith) block.ensures),
+    )
+
+pub returns : goal.returns
+returns c =
+    let l = c.args.«data».now in
+    let at = c.args.self.at in
+    let filled = c.fill_run in (
+      omega arith,
+      storing-escape c.requires.3 (omega arith) c.requires.1
+          (ap (λ (n : ℕ). found (run n (get_or l (at + 3) 0)) 4) c.long_count-count.ensures.0
+          ∙ run-long-color (get_or l (at + 1) 0) _ (get_or l (at + 2) 0 ∷ get_or l (at + 3) 0 ∷ []) refl c.if-second-lt64.false c.if-second-lt128.false c.if-second-lt192.false)
+          filled.auto.pixels filled.ensures,
+    )

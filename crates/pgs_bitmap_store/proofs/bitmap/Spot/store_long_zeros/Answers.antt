@@ -1,0 +1,33 @@
+-- `store_long_zeros` meets its contract, by the length of the run. Assumes nothing.
+use mathlib.Core.Path.{◌≡◌, refl, ◌∙◌, ap}
+use mathlib.Core.List.{[], ◌∷◌}
+use Prim.Native.Nat.{ℕ, ◌+◌, ◌*◌, ◌%◌, ◌≤◌, ◌<◌}
+use native.Mathlib.Omega.{arith}
+use Rattle.pgs_run_length.specs.RunLength.{run, found, run_of}
+use Rattle.pgs_run_length.proofs.OneCode.{run-long-zero}
+use Rattle.pgs_bitmap_store.proofs.BitmapStores.{block-fills, storing-escape}
+use Rattle.pgs_bitmap_store.proofs.bitmap.Spot.store_long_zeros.Goals as goal
+
+-- the run that the code is
+the-run : (second third fourth : ℕ) {count : ℕ} → count ≡ 256 * (second % 64) + third → 0x40 ≤ second → second < 0x80
+    → found (run count 0) 3 ≡ run_of second (third ∷ fourth ∷ [])
+the-run second third fourth is h k =
+    ap (λ (n : ℕ). found (run n 0) 3) is ∙ run-long-zero second (second % 64) (third ∷ fourth ∷ []) refl h k
+
+pub store_literal-requires : goal.store_literal-requires
+store_literal-requires c =
+    let block = c.fill_exactly in
+    let next = c.further.ensures in
+    rw next (
+      omega arith,
+      omega (arith, c.if-count-le128.true, block.auto.pixels),
+      storing-escape c.requires.5 (omega arith) c.requires.1 (the-run _ _ _ c.long_count-count.ensures.0 c.requires.2 c.requires.3) block.auto.pixels
+          (block-fills 128 c.if-count-le128.true (omega arith) block.ensures),
+    )
+
+pub returns : goal.returns
+returns c =
+    let filled = c.fill_run in (
+      omega arith,
+      storing-escape c.requires.5 (omega arith) c.requires.1 (the-run _ _ _ c.long_count-count.ensures.0 c.requires.2 c.requires.3) filled.auto.pixels filled.ensures,
+    )

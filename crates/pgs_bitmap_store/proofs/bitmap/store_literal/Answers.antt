@@ -1,7 +1,0 @@
--- `store_literal` meets its contract. Assumes nothing.
-use native.Mathlib.Omega.{arith}
-use Rattle.pgs_bitmap_store.proofs.BitmapStores.{storing-pixel}
-use Rattle.pgs_bitmap_store.proofs.bitmap.store_literal.Goals as goal
-
-pub returns-then-b-ne0 : goal.returns-then-b-ne0
-returns-then-b-ne0 c = (omega arith, omega arith, omega arith, storing-pixel c.requires.2 c.requires.0 c.if-b-ne0.true c.requires.1)
