@@ -31,7 +31,7 @@ fn show_in(
             print!(rt; ": accepted")?;
         }
         Err(why) => {
-            print!(rt; ": refused {}", why.number())?;
+            print!(rt; ": refused {why}")?;
         }
     }
     print!(rt; ",")?;
@@ -44,69 +44,95 @@ fn show(rt: &impl Print, data: &[u8], width: u16, height: u16, room: usize) -> i
     show_in(rt, &mut buffer, data, width, height, room)
 }
 
+// Bitmaps, each its data, width and height, into the whole buffer.
+fn show_all(rt: &impl Print, bitmaps: &[(&[u8], u16, u16)]) -> io::Result<()> {
+    for (data, width, height) in bitmaps {
+        show(rt, data, *width, *height, 8)?;
+    }
+    Ok(())
+}
+
 // The samples of 01.
 fn samples(rt: &impl Print) -> io::Result<()> {
-    show(rt, b"\x01\x02\x03", 3, 1, 8)?;
-    show(rt, b"\x01\x02\x03\x00\x00", 3, 1, 8)?;
-    show(rt, b"\x00\xC0\x03\x09", 3, 1, 8)?;
-    show(rt, b"\x00\x40\x00\x00\x82\x07", 2, 1, 8)?;
-    show(rt, b"\x00\x00\x00\x00", 0, 2, 8)?;
-    show(rt, b"", 0, 1, 8)?;
-    show(rt, b"\x05", 2, 1, 8)?;
-    show(rt, b"\x05\x05\x05", 2, 1, 8)?;
-    show(rt, b"\x00\x00", 2, 1, 8)?;
-    show(rt, b"\x05\x05\x00", 2, 1, 8)?;
-    show(rt, b"\x05\x05\x00\x00\x06\x06", 2, 1, 8)?;
-    show(rt, b"\x05\x05\x00\x00\x06\x06\x00\x00", 2, 1, 8)?;
-    Ok(())
+    show_all(
+        rt,
+        &[
+            (b"\x01\x02\x03", 3, 1),
+            (b"\x01\x02\x03\x00\x00", 3, 1),
+            (b"\x00\xC0\x03\x09", 3, 1),
+            (b"\x00\x40\x00\x00\x82\x07", 2, 1),
+            (b"\x00\x00\x00\x00", 0, 2),
+            (b"", 0, 1),
+            (b"\x05", 2, 1),
+            (b"\x05\x05\x05", 2, 1),
+            (b"\x00\x00", 2, 1),
+            (b"\x05\x05\x00", 2, 1),
+            (b"\x05\x05\x00\x00\x06\x06", 2, 1),
+            (b"\x05\x05\x00\x00\x06\x06\x00\x00", 2, 1),
+        ],
+    )
 }
 
 // A short line comes before an extra one, and missing bytes before a run that is too long.
 fn order(rt: &impl Print) -> io::Result<()> {
-    show(rt, b"\x05\x05\x00\x00\x00\x00", 2, 1, 8)?;
-    show(rt, b"\x00\xBF", 1, 1, 8)?;
-    show(rt, b"\x00\xBF\x07", 1, 1, 8)?;
-    show(rt, b"\x00", 1, 1, 8)?;
-    show(rt, b"\x00\x40", 1, 1, 8)?;
-    show(rt, b"\x00\x80", 1, 1, 8)?;
-    show(rt, b"\x00\xC0", 1, 1, 8)?;
-    show(rt, b"\x00\xC0\x01", 1, 1, 8)?;
-    Ok(())
+    show_all(
+        rt,
+        &[
+            (b"\x05\x05\x00\x00\x00\x00", 2, 1),
+            (b"\x00\xBF", 1, 1),
+            (b"\x00\xBF\x07", 1, 1),
+            (b"\x00", 1, 1),
+            (b"\x00\x40", 1, 1),
+            (b"\x00\x80", 1, 1),
+            (b"\x00\xC0", 1, 1),
+            (b"\x00\xC0\x01", 1, 1),
+        ],
+    )
 }
 
 // Runs of no pixels are accepted anywhere, after the last line too.
 fn empty_runs(rt: &impl Print) -> io::Result<()> {
-    show(rt, b"\x05\x00\x40\x00\x06\x00\x00\x00\x80", 2, 1, 8)?;
-    show(rt, b"\x05\x00\x40\x00\x06\x00\x00\x00\x80\x07", 2, 1, 8)?;
-    show(
+    show_all(
         rt,
-        b"\x05\x05\x00\xC0\x00\x08\x00\x00\x00\x40\x00\x00\x80\x07\x00\xC0\x00\x09",
-        2,
-        1,
-        8,
-    )?;
-    Ok(())
+        &[
+            (b"\x05\x00\x40\x00\x06\x00\x00\x00\x80", 2, 1),
+            (b"\x05\x00\x40\x00\x06\x00\x00\x00\x80\x07", 2, 1),
+            (
+                b"\x05\x05\x00\xC0\x00\x08\x00\x00\x00\x40\x00\x00\x80\x07\x00\xC0\x00\x09",
+                2,
+                1,
+            ),
+        ],
+    )
 }
 
 // Width 0 and height 0.
 fn empty_sizes(rt: &impl Print) -> io::Result<()> {
-    show(rt, b"\x00\x40\x00", 0, 1, 8)?;
-    show(rt, b"\x00\x40\x00\x00\x00", 0, 1, 8)?;
-    show(rt, b"", 0, 0, 8)?;
-    show(rt, b"\x00\x00", 0, 0, 8)?;
-    show(rt, b"\x00\x80\x07", 0, 0, 8)?;
-    show(rt, b"", 5, 0, 8)?;
-    show(rt, b"\x01\x01\x01\x01\x01", 5, 0, 8)?;
-    show(rt, b"\x01\x01\x01\x01\x01\x00\x00", 5, 0, 8)?;
-    Ok(())
+    show_all(
+        rt,
+        &[
+            (b"\x00\x40\x00", 0, 1),
+            (b"\x00\x40\x00\x00\x00", 0, 1),
+            (b"", 0, 0),
+            (b"\x00\x00", 0, 0),
+            (b"\x00\x80\x07", 0, 0),
+            (b"", 5, 0),
+            (b"\x01\x01\x01\x01\x01", 5, 0),
+            (b"\x01\x01\x01\x01\x01\x00\x00", 5, 0),
+        ],
+    )
 }
 
 // Past the last line.
 fn past_the_last_line(rt: &impl Print) -> io::Result<()> {
-    show(rt, b"\x05\x05\x00\x00\x06", 2, 1, 8)?;
-    show(rt, b"\x05\x05\x00\x00\x06\x06", 2, 1, 8)?;
-    show(rt, b"\x05\x05\x00\x00\x06\x06\x00\x00", 2, 1, 8)?;
-    Ok(())
+    show_all(
+        rt,
+        &[
+            (b"\x05\x05\x00\x00\x06", 2, 1),
+            (b"\x05\x05\x00\x00\x06\x06", 2, 1),
+            (b"\x05\x05\x00\x00\x06\x06\x00\x00", 2, 1),
+        ],
+    )
 }
 
 // A buffer that is too small is found last, and one of the very size is enough.

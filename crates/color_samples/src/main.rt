@@ -3,7 +3,7 @@
 
 use pgs_base::refusal::Refusal;
 use pgs_color::ycbcr::{Rgb8, ycbcr709_to_rgb};
-use pgs_palette::palette::{Rgba8, apply, clear, get};
+use pgs_palette::palette::{Rgba8, TABLE_LEN, apply, clear, get};
 use std::io;
 
 // Y, Cb and Cr, and their colour.
@@ -13,8 +13,7 @@ fn print_color(rt: &impl Print, y: u8, cb: u8, cr: u8) -> io::Result<()> {
 }
 
 fn print_refusal(rt: &impl Print, refusal: Refusal) -> io::Result<()> {
-    let number = refusal.number();
-    println!(rt; "refused {number}")
+    println!(rt; "refused {refusal}")
 }
 
 // The pixel of an index, in hexadecimal.
@@ -43,7 +42,7 @@ fn print_colors(rt: &impl Print) -> io::Result<()> {
 
 // A palette under id 0, which the PCS names; the table starts without an entry.
 fn print_palette(rt: &impl Print) -> io::Result<()> {
-    let mut table = [255u8; 1024];
+    let mut table = [255u8; TABLE_LEN];
     print_update(rt, clear(&mut table))?;
     print_index(rt, &table, 1)?;
     // entries are id, Y, Cr, Cb, alpha
@@ -68,7 +67,7 @@ fn print_palette(rt: &impl Print) -> io::Result<()> {
 
 // A table that is one byte short.
 fn print_short(rt: &impl Print) -> io::Result<()> {
-    let mut table = [255u8; 1023];
+    let mut table = [255u8; TABLE_LEN - 1];
     print_update(rt, clear(&mut table))?;
     print_index(rt, &table, 1)
 }

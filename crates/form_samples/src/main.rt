@@ -12,7 +12,7 @@ const END: [u8; 13] = [0x50, 0x47, 0, 0, 0, 0, 0, 0, 0, 0, 0x80, 0, 0];
 fn print_field(rt: &impl Print, field: Result<u32, Refusal>) -> io::Result<()> {
     match field {
         Ok(number) => print!(rt; " {number}"),
-        Err(why) => print!(rt; " refused {}", why.number()),
+        Err(why) => print!(rt; " refused {why}"),
     }
 }
 
@@ -55,7 +55,7 @@ fn print_segments(rt: &impl Print, stream: &[u8]) -> io::Result<()> {
     let read = pgs_segment_list::parse_eight(stream, [nine; 8]);
     match read.answer {
         Ok(n) => println!(rt; "segments: {n}")?,
-        Err(why) => println!(rt; "refused: {}", why.number())?,
+        Err(why) => println!(rt; "refused: {why}")?,
     }
     for r in &read.list[..3] {
         print_record(rt, *r)?;

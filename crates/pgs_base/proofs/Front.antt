@@ -9,7 +9,7 @@ use native.Mathlib.Omega.{arith}
 use lib.ListN.{length, take, drop, set, length-set, length-append, length-drop, take-append-drop}
 use Rattle.std.proofs.Math.Nat.{add-zero}
 use Rattle.std.proofs.lemmas.List.{drop-take}
-use lib.Seq.{take-suc-set, drop-set-lt, take_at, drop_at, drop-drop, length-take-le}
+use lib.Seq.{take-suc-set, take_all, drop-set-lt, take_at, drop_at, drop-drop, length-take-le}
 
 pub record Front {A : Type 0} (start whole now rest : List A) (k : ℕ) : Type 0 where
   pub within : k ≤ length now
@@ -60,6 +60,17 @@ module _ {A : Type 0} {start whole now : List A} {k : ℕ} where
       let p : take k now ≡ whole = rw append-nil at f.done in
       let n : length whole ≡ k = rw (← p) (length-take-le k now f.within) in
       rw (n, ← f.kept, ← p) (sym (take-append-drop k now))
+
+-- a buffer as long as the whole that was gone through is the whole
+pub filled-whole : {A : Type 0} {start whole now rest : List A} {k : ℕ} → Front start whole now rest k → length now ≤ k
+    → length whole ≡ length start → now ≡ whole
+filled-whole {now = now} {rest = rest} {k = k} f h e =
+    let done : now ++ rest ≡ _ = rw (take_all k now h) at f.done in
+    rw (none rest (omega (arith, ap length done, length-append now rest, f.same)), append-nil) at done
+  where
+    none : {A : Type 0} (l : List A) → length l ≡ 0 → l ≡ []
+    none [] e = refl
+    none (x ∷ l) e = absurd (omega arith)
 
 -- a loop that went over the first n cells of a list filled them: the list is filled
 pub filled-part : {A : Type 0} {whole now : List A} {k : ℕ} (n : ℕ) (l : List A) → Front (take n l) whole now [] k → length whole ≡ n

@@ -1,5 +1,6 @@
-// What every layer shares: the refusals and their numbers, and big-endian numbers.
+// What every layer shares: the refusals and their numbers, big-endian numbers, widths and heights.
 #![tactic(auto)]
 
+pub mod dimensions;
 pub mod number;
 pub mod refusal;

@@ -2,6 +2,9 @@
 ghost use Rattle.std.specs.Prelude.{◌≡◌};
 ghost use Rattle.pgs_base.specs.Refusals.{number_of};
 
+use std::fmt;
+use std::num::TryFromIntError;
+
 // Each variant's comment has 01's word for it.
 #[derive(Clone, Copy, Debug, PartialEq, Eq)]
 pub enum Refusal {
@@ -85,5 +88,29 @@ impl Refusal {
         ensures { result ≡ number_of self }
     {
         self as u8
+    }
+}
+
+// A refusal is printed as its number.
+impl fmt::Display for Refusal {
+    ghost use Rattle.std.specs.Prelude.{Some};
+    ghost use Rattle.std.specs.Fmt.{decimal};
+
+    ghost output = { λ why. Some (decimal (number_of why)) };
+
+    fn fmt<W: fmt::Write>(&self, f: &mut fmt::Formatter<W>) -> fmt::Result {
+        let number = self.number();
+        write!(f, "{number}")
+    }
+}
+
+// A number that its field cannot hold: `?` passes it on in a writer. A reading takes each number that a field can hold.
+impl From<TryFromIntError> for Refusal {
+    ghost use Rattle.pgs_base.specs.declared.refusal.Refusal.TheVariants.{NotEncodable};
+
+    ghost from_gives = { λ _ why. why ≡ NotEncodable };
+
+    fn from(_: TryFromIntError) -> Self {
+        Refusal::NotEncodable
     }
 }

@@ -2,8 +2,7 @@
 -- Assumes nothing.
 use mathlib.Core.Path.{◌≡◌, refl, sym, ap, ap₂, ◌∙◌}
 use mathlib.Core.List.{List, ◌++◌, append-nil}
-use Prim.Native.Nat.{ℕ, ◌*◌, ◌-◌, ◌≤◌, ◌<◌, ◌^◌}
-use native.Mathlib.Nat.{mul-le-mul}
+use Prim.Native.Nat.{ℕ, ◌*◌, ◌-◌, ◌≤◌}
 use native.Mathlib.Omega.{arith}
 use lib.Dec.{leb}
 use lib.ListN.{length, take, drop, replicate}
@@ -16,12 +15,6 @@ use Rattle.pgs_bitmap_check.specs.Bitmap.{reading_of, bitmap_of}
 use Rattle.pgs_bitmap.specs.Decoding.{decode_verdict, Decoding}
 use Rattle.pgs_bitmap_store.specs.Padding.{padded_to}
 use Rattle.pgs_bitmap.proofs.BitmapArea.{bitmap-area}
-
--- a product of two sizes fits
-pub area-fits : {width height : ℕ} → width < 2 ^ 16 → height < 2 ^ 16 → width * height < 2 ^ 64
-area-fits {width} {height} w h =
-    let most : width * height ≤ 65535 * 65535 = mul-le-mul {n₁ = width} {m₁ = height} {n₂ = 65535} {m₂ = 65535} (omega arith) (omega arith) in
-    omega arith
 
 -- where there is exactly room, nothing is left out and nothing is made 0
 pub padded-whole : (pixels : List ℕ) (room : ℕ) → length pixels ≡ room → padded_to room pixels ≡ pixels

@@ -1,6 +1,7 @@
 // A bitmap from its run-length code: lines of exactly width pixels, height of them.
 ghost use Rattle.pgs_bitmap.specs.Decoding.{Decoding};
 
+use pgs_base::dimensions::Dimensions;
 use pgs_base::refusal::Refusal;
 use pgs_bitmap_check::bitmap::check_rle;
 use pgs_bitmap_store::bitmap::store_rle;
@@ -10,7 +11,7 @@ pub fn decode_rle(data: &[u8], width: u16, height: u16, pixels: &mut [u8]) -> Re
     ensures { Decoding «data».now width height pixels.old result pixels.new }
 {
     check_rle(data, width, height)?;
-    let need = usize::from(width) * usize::from(height);
+    let need = Dimensions { width, height }.area();
     if pixels.len() < need {
         return Err(Refusal::BufferTooSmall);
     }

@@ -12,16 +12,15 @@ use borrow.Author.Tests.{eqb-true, eqb-false, le-leb, lt-leb, lt-ltb, le-ltb, eq
 use lib.Dec.{eqb}
 use Rattle.pgs_base.specs.Outcome.{Verdict, refused, unless, pick}
 use Rattle.pgs_run_length.specs.RunLength.{Code, run, line_end, none, found, truncated, code_of, run_of, Codes, and_further, codes_of, pixels_of}
-use Rattle.pgs_bitmap_check.specs.Bitmap.{Reading, counted, stopped, last_line_counts, at_end, read_from, read_on, reading_of, bitmap_of}
+use Rattle.pgs_bitmap_check.specs.Bitmap.{Reading, counted, stopped, last_line_counts, at_end, read_from, read_on, bitmap_of}
 use Rattle.std.specs.Prelude.{Result, Ok, Err}
 use Rattle.pgs_base.specs.Refusals.{number_of}
 use Rattle.pgs_base.specs.declared.refusal.Refusal.{Refusal}
 use Rattle.pgs_run_length.specs.declared.code.Run.{Run}
 use Rattle.pgs_bitmap_check.specs.Progress.{further, verdict_from, IsInside, Reached, Ran, Ended, Stepped}
-use Rattle.pgs_bitmap_check.specs.declared.bitmap.Size.{Size}
+use Rattle.pgs_base.specs.declared.dimensions.Dimensions.{Dimensions}
 use Rattle.pgs_bitmap_check.specs.declared.bitmap.Place.{Place}
 use Rattle.pgs_run_length.proofs.AllCodes.{taken-bounds, codes-are}
-use Rattle.pgs_run_length.proofs.Places.{left-none}
 use Rattle.pgs_run_length.proofs.OneCode.{escape-line-end, escape-among, code-escape}
 
 -- a code stands at the place: the codes from there on, and what comes of them
@@ -103,9 +102,6 @@ module _ (l : List ℕ) (at : ℕ) where
   pub pixels-none : code_of (drop at l) ≡ none → bitmap_of (drop at l) ≡ []
   pixels-none e = ap (λ (all : Codes). pixels_of all.codes) (codes-are (drop at l) none e)
 
-  pub pixels-end : length l ≤ at → bitmap_of (drop at l) ≡ []
-  pixels-end h = pixels-none (ap code_of (left-none l at h))
-
 -- what a code at the place took of the data
 pub taken_at : (l : List ℕ) (at : ℕ) {code : Code} {n : ℕ} → at ≤ length l → code_of (drop at l) ≡ found code n
     → (0 < n) × (at + n ≤ length l)
@@ -125,7 +121,7 @@ module _ (width height lines column : ℕ) where
   end-plain e h = rw (e, eq-eqb _ _ h)
 
 -- what a place is where the check has come to it
-module _ {l : List ℕ} {size : Size} {place : Place} {v : Verdict} where
+module _ {l : List ℕ} {size : Dimensions} {place : Place} {v : Verdict} where
   pub reached-run : {count color n : ℕ} → Reached l size place v → code_of (drop place.at l) ≡ found (run count color) n
       → place.column + count ≤ size.width → Reached l size (further place count n) v
   reached-run r e h =
@@ -150,20 +146,16 @@ module _ {l : List ℕ} {size : Size} {place : Place} {v : Verdict} where
   reached-end r e = sym (ap (λ (x : Reading). x.verdict) (read-end size.width size.height place.lines place.column l place.at e)) ∙ r.same
 
 -- reading on from a place comes to what it comes to
-reached_here : {l : List ℕ} {size : Size} {place : Place} → IsInside l size place → Reached l size place (verdict_from l size place)
+reached_here : {l : List ℕ} {size : Dimensions} {place : Place} → IsInside l size place → Reached l size place (verdict_from l size place)
 reached_here inside = record { inside = inside; same = refl }
 
-pub reached-start : (l : List ℕ) (size : Size)
-    → Reached l size (record { lines = 0; column = 0; at = 0 }) (reading_of l size.width size.height).verdict
-reached-start l size = reached_here (record { within = omega arith; few = omega arith; narrow = omega arith })
-
 -- one code further on: what reading on comes to there, it comes to here
-pub reached-step : {l : List ℕ} {size : Size} (place : Place) {to : Place} {v : Verdict} → verdict_from l size place ≡ v
+pub reached-step : {l : List ℕ} {size : Dimensions} (place : Place) {to : Place} {v : Verdict} → verdict_from l size place ≡ v
     → Reached l size to (verdict_from l size place) → Reached l size to v
 reached-step place before there = record { inside = there.inside; same = there.same ∙ before }
 
 -- the step after a code: a run, or the end of a line
-module _ {l : List ℕ} {size : Size} {place : Place} (inside : IsInside l size place) where
+module _ {l : List ℕ} {size : Dimensions} {place : Place} (inside : IsInside l size place) where
   pub ran-stepped : (a : Run) (step : Result Place Refusal) → code_of (drop place.at l) ≡ found (run a.count a.color) a.taken
       → Ran size place a step → Stepped l size place step
   ran-stepped a (Ok to) e ran =

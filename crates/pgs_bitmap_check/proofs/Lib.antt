@@ -1,3 +1,4 @@
 pub mod BitmapSteps
 pub mod UntestedWidth
 pub mod LiteralStretch
+pub mod FullEights

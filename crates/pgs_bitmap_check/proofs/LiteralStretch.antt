@@ -9,12 +9,12 @@ use Rattle.pgs_base.specs.Outcome.{Verdict}
 use Rattle.pgs_run_length.specs.Literals.{Literals}
 use Rattle.pgs_run_length.proofs.OneCode.{code-pixel}
 use Rattle.pgs_bitmap_check.specs.Progress.{further, Untested, Onward}
-use Rattle.pgs_bitmap_check.specs.declared.bitmap.Size.{Size}
+use Rattle.pgs_base.specs.declared.dimensions.Dimensions.{Dimensions}
 use Rattle.pgs_bitmap_check.specs.declared.bitmap.Place.{Place}
 use Rattle.pgs_bitmap_check.proofs.UntestedWidth.{untested-run}
 
 -- reading n bytes that are one pixel each
-pub untested-literals : {l : List ℕ} {size : Size} {place : Place} {v : Verdict} (n : ℕ) → Untested l size place v
+pub untested-literals : {l : List ℕ} {size : Dimensions} {place : Place} {v : Verdict} (n : ℕ) → Untested l size place v
     → Literals l place.at n → place.at + n ≤ length l → Untested l size (further place n n) v
 untested-literals {l} {size} {place} {v} zero u literals there =
     subst₂ (λ (c a : ℕ). Untested l size (record { lines = place.lines; column = c; at = a }) v) {x = place.column} {y = place.column + 0} (omega arith) (omega arith) u

@@ -10,12 +10,12 @@ use Rattle.pgs_base.specs.Outcome.{Verdict, refused}
 use Rattle.pgs_run_length.specs.RunLength.{run, found, code_of, run_of}
 use Rattle.pgs_bitmap_check.specs.Bitmap.{Reading}
 use Rattle.pgs_bitmap_check.specs.Progress.{further, Reached, Untested, Onward}
-use Rattle.pgs_bitmap_check.specs.declared.bitmap.Size.{Size}
+use Rattle.pgs_base.specs.declared.dimensions.Dimensions.{Dimensions}
 use Rattle.pgs_bitmap_check.specs.declared.bitmap.Place.{Place}
 use Rattle.pgs_run_length.proofs.OneCode.{code-pixel, code-escape, escape-among, run-short-color}
 use Rattle.pgs_bitmap_check.proofs.BitmapSteps.{taken_at, read-run, read-past-width}
 
-module _ {l : List ℕ} {size : Size} {place : Place} {v : Verdict} where
+module _ {l : List ℕ} {size : Dimensions} {place : Place} {v : Verdict} where
   pub untested-reached : Reached l size place v → Untested l size place v
   untested-reached r =
       record { within = r.inside.within; few = r.inside.few; same = λ h. r.same; past = λ h. absurd (omega (arith, h, r.inside.narrow)) }

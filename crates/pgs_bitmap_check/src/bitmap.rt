@@ -1,42 +1,35 @@
 // The check of a bitmap's run-length code: lines of exactly width pixels, height of them.
 ghost use Rattle.std.specs.Prelude.{◌≡◌, true, ◌+◌, ◌-◌, ◌^◌, ◌≤◌, ◌<◌, length, get_or, drop, eqb};
+ghost use Rattle.std.specs.List.{take_while};
 ghost use Rattle.pgs_base.specs.Outcome.{verdict_of, unless};
 ghost use Rattle.pgs_run_length.specs.RunLength.{code_of};
 ghost use Rattle.pgs_run_length.specs.NextCode.{first_code};
-ghost use Rattle.pgs_run_length.specs.Literals.{Literals};
+ghost use Rattle.pgs_run_length.specs.Literals.{literals, Literals};
 ghost use Rattle.pgs_bitmap_check.specs.Bitmap.{last_line_counts, at_end, reading_of};
 ghost use Rattle.pgs_bitmap_check.specs.Progress.{further, verdict_from, IsInside, Ran, Ended, Stepped, Onward};
 
+use pgs_base::dimensions::Dimensions;
 use pgs_base::refusal::Refusal;
 use pgs_run_length::code::{Code, Run, eight_literals, long_count, next_code, short_count};
 
-// How many pixels a line has, and how many lines a bitmap.
-#[derive(Clone, Copy)]
-struct Size {
-    width: u16,
-    height: u16,
+// An unterminated line of width pixels counts if the width is not 0.
+fn last_line_counts(width: u16, column: usize) -> bool
+    ensures { result ≡ last_line_counts width column }
+{
+    column == usize::from(width) && width != 0
 }
 
-impl Size {
-    // An unterminated line of width pixels counts if the width is not 0.
-    fn last_line_counts(self, column: usize) -> bool
-        ensures { result ≡ last_line_counts self.width column }
-    {
-        column == usize::from(self.width) && self.width != 0
+fn line_count(height: u16, lines: usize) -> Result<(), Refusal>
+    ensures { verdict_of result ≡ unless 32 (eqb lines height) }
+{
+    if lines != usize::from(height) {
+        return Err(Refusal::LineCountMismatch);
     }
-
-    fn line_count(self, lines: usize) -> Result<(), Refusal>
-        ensures { verdict_of result ≡ unless 32 (eqb lines self.height) }
-    {
-        if lines != usize::from(self.height) {
-            return Err(Refusal::LineCountMismatch);
-        }
-        Ok(())
-    }
+    Ok(())
 }
 
 // Where reading stands: the lines ended, the pixels after them, which may be more than the width, and the place of the next code.
-#[derive(Clone, Copy)]
+#[derive(Clone, Copy, Debug, PartialEq, Eq)]
 struct Place {
     lines: usize,
     column: usize,
@@ -57,21 +50,21 @@ impl Place {
     }
 
     // The end of the data.
-    fn end_of_data(self, size: Size) -> Result<(), Refusal>
+    fn end_of_data(self, size: Dimensions) -> Result<(), Refusal>
         requires { self.lines ≤ size.height }
         ensures { verdict_of result ≡ at_end size.width size.height self.lines self.column }
     {
-        if size.last_line_counts(self.column) {
-            return size.line_count(self.lines + 1);
+        if last_line_counts(size.width, self.column) {
+            return line_count(size.height, self.lines + 1);
         }
         if self.column != 0 {
             return Err(Refusal::PartialLastLine);
         }
-        size.line_count(self.lines)
+        line_count(size.height, self.lines)
     }
 
     // Goes on after a run.
-    fn pass_run(self, size: Size, run: Run) -> Result<Place, Refusal>
+    fn pass_run(self, size: Dimensions, run: Run) -> Result<Place, Refusal>
         requires { (self.column ≤ size.width) × (self.at + run.taken < 2 ^ 64) }
         ensures { Ran size self run result }
     {
@@ -82,7 +75,7 @@ impl Place {
     }
 
     // Goes on after the end of a line.
-    fn end_line(self, size: Size) -> Result<Place, Refusal>
+    fn end_line(self, size: Dimensions) -> Result<Place, Refusal>
         requires { self.at + 2 < 2 ^ 64 }
         ensures { Ended size self result }
     {
@@ -100,7 +93,7 @@ impl Place {
     }
 
     // Goes on after the code that stands here.
-    fn after_code(self, data: &[u8], size: Size, code: Code) -> Result<Place, Refusal>
+    fn after_code(self, data: &[u8], size: Dimensions, code: Code) -> Result<Place, Refusal>
         requires { (first_code (Ok code) ≡ code_of (drop self.at «data».now)) × IsInside «data».now size self }
         ensures { Stepped «data».now size self result }
     {
@@ -180,22 +173,24 @@ fn at_once(left: usize) -> usize
     left.min(65536)
 }
 
+// How many of these eights from the first on have no byte 00.
+fn full_eights(eights: &[[u8; 8]]) -> usize
+    ensures { result ≡ length (take_while (λ eight. literals eight 0 8) eights.now) }
+{
+    eights
+        .iter()
+        .take_while(|eight| eight_literals(*eight, 0))
+        .count()
+}
+
 // So many bytes from a place on are one pixel each: counted by eights, up to an eight that has a byte 00.
-// Stays a loop: the chain `8 * data[at..at + most].chunks_exact(8).take_while(..).count()` would write the test of `eight_literals` again.
 fn literals_by_eight(data: &[u8], at: usize) -> usize
     requires { at ≤ length «data».now }
     ensures { (at + result ≤ length «data».now) × (result ≤ 65536) × Literals «data».now at result }
 {
     let most = at_once(data.len() - at);
-    let mut n: usize = 0;
-    while 8 <= most - n {
-        if eight_literals(data, at + n) {
-            n += 8;
-        } else {
-            return n;
-        }
-    }
-    n
+    let (eights, _) = data[at..at + most].as_chunks::<8>();
+    8 * full_eights(eights)
 }
 
 // So many bytes from a place on are one pixel each, of which the first is: one by one up to the fourth, then by eights.
@@ -216,7 +211,9 @@ fn literals_from(data: &[u8], at: usize) -> usize
 }
 
 // Reads the codes from a place on, a code at a time.
-fn check_rest(data: &[u8], size: Size, from: Place) -> Result<(), Refusal>
+// Stays a loop: each code may be refused, where it is read and where it is counted, and an iterator of the codes would hold the place that
+// `place` has.
+fn check_rest(data: &[u8], size: Dimensions, from: Place) -> Result<(), Refusal>
     requires { IsInside «data».now size from }
     ensures { verdict_of result ≡ verdict_from «data».now size from }
 {
@@ -236,8 +233,9 @@ fn places(length: usize) -> usize
 }
 
 // Reads the codes through. The width is tested at the end of each line and of the data, not for each run, which makes this loop fast.
-// Stays a loop: the step is the size of the codes just read, which no range counts.
-fn check_codes(data: &[u8], size: Size) -> Result<(), Refusal>
+// Stays a loop: a turn reads one code or several, as many as stand there, an end of line may be refused, and `check_rest` goes on from the
+// place reached.
+fn check_codes(data: &[u8], size: Dimensions) -> Result<(), Refusal>
     ensures { verdict_of result ≡ (reading_of «data».now size.width size.height).verdict }
 {
     let width = usize::from(size.width);
@@ -270,5 +268,5 @@ fn check_codes(data: &[u8], size: Size) -> Result<(), Refusal>
 pub fn check_rle(data: &[u8], width: u16, height: u16) -> Result<(), Refusal>
     ensures { verdict_of result ≡ (reading_of «data».now width height).verdict }
 {
-    check_codes(data, Size { width, height })
+    check_codes(data, Dimensions { width, height })
 }

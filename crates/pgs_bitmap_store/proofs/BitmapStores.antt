@@ -1,15 +1,14 @@
 -- Storing a bitmap's pixels code by code, as many as there is room for.
 -- Assumes nothing.
-use mathlib.Core.Path.{◌≡◌, refl, sym, ap, ap₂, ◌∙◌}
+use mathlib.Core.Path.{◌≡◌, sym, ap, ap₂, ◌∙◌}
 use mathlib.Core.List.{List, [], ◌∷◌, ◌++◌, append_assoc, append-nil}
 use Prim.Native.Nat.{ℕ, ◌+◌, ◌-◌, ◌≤◌, ◌<◌}
 use native.Mathlib.Decide.{dec_lt}
 use native.Mathlib.Omega.{arith}
-use lib.ListN.{length, get_or, take, drop, set, replicate, length-append, length-replicate, length-set, length-take, length-drop, replicate-append-replicate}
-use lib.Seq.{length-take-le, take_all, take_at}
+use lib.ListN.{length, get_or, take, drop, set, replicate, length-append, length-replicate, length-set, replicate-append-replicate}
+use lib.Seq.{length-take-le, take_all, take_at, drop_at, drop-drop}
 use Rattle.pgs_run_length.specs.RunLength.{run, line_end, none, found, truncated, code_of, run_of}
 use Rattle.pgs_bitmap_check.specs.Bitmap.{bitmap_of}
-use Rattle.pgs_bitmap_store.specs.Padding.{padded_to}
 use Rattle.pgs_bitmap_store.specs.Progress.{further, Filled, Storing, Stored}
 use Rattle.pgs_bitmap_store.specs.declared.bitmap.Spot.{Spot}
 use Rattle.pgs_run_length.proofs.OneCode.{code-pixel}
@@ -60,9 +59,6 @@ run-with-room size out to count color front rest long order most all = go (dec_l
         let whole : to - out ≡ count = omega (arith, p, order, most) in
         ap (λ (m : ℕ). take size ((front ++ replicate m color) ++ rest)) whole
         ∙ ap (take size) (append_assoc front (replicate count color) rest)
-
-pub storing-start : (l start : List ℕ) → Storing l start (record { at = 0; out = 0 })
-storing-start l start = record { within = omega arith; inside = omega arith; done = refl }
 
 module _ {l now : List ℕ} {spot : Spot} (s : Storing l now spot) where
   -- what comes next is a run of pixels, filled as far as there is room
@@ -132,13 +128,21 @@ module _ {l now : List ℕ} {spot : Spot} (s : Storing l now spot) where
   pub storing-end : code_of (drop spot.at l) ≡ none → Stored l now spot.out
   storing-end e = storing-all (pixels-none l spot.at e)
 
--- the pixels after those are made 0
-pub stored-padded : (l now after : List ℕ) (end : ℕ) → Stored l now end
-    → after ≡ take end now ++ replicate (length (drop end now)) 0 → after ≡ padded_to (length now) (bitmap_of l)
-stored-padded l now after end s filled = filled ∙ ap₂ (λ (m : List ℕ) (n : ℕ). m ++ replicate n 0) s.done left
+-- a run that is filled leaves what is behind it
+pub filled-behind : (before after : List ℕ) (from count color : ℕ) → from + count ≤ length before
+    → after ≡ take from before ++ (replicate count color ++ drop count (drop from before)) → drop (from + count) after ≡ drop (from + count) before
+filled-behind before after from count color room is =
+    ap (drop (from + count)) (is ∙ sym (append_assoc (take from before) (replicate count color) (drop count (drop from before))))
+    ∙ drop_at (take from before ++ replicate count color) (drop count (drop from before)) (from + count) full
+    ∙ drop-drop count from before
   where
-    size : end ≡ length (take (length now) (bitmap_of l))
-    size = sym (length-take-le end now s.inside) ∙ ap length s.done
+    full : length (take from before ++ replicate count color) ≡ from + count
+    full = rw (length-append, length-replicate, length-take-le from before (omega arith))
 
-    left : length (drop end now) ≡ length now - length (bitmap_of l)
-    left = omega (arith, size, length-drop end now, length-take (length now) (bitmap_of l))
+-- what a place leaves behind it, a later one does
+pub behind-later : (now before after : List ℕ) {at to : ℕ} → at ≤ to → drop at now ≡ drop at before → drop to after ≡ drop to now
+    → drop to after ≡ drop to before
+behind-later now before after {at} {to} order kept e =
+    e ∙ ap (λ (n : ℕ). drop n now) {x = to} {y = at + (to - at)} (omega arith) ∙ sym (drop-drop (to - at) at now)
+    ∙ ap (drop (to - at)) kept
+    ∙ drop-drop (to - at) at before ∙ ap (λ (n : ℕ). drop n before) {x = at + (to - at)} {y = to} (omega arith)

@@ -1,11 +1,17 @@
 -- How far storing a bitmap has come, for the contracts of private functions.
-use Rattle.std.specs.Prelude.{◌≡◌, List, ◌++◌, ℕ, ◌+◌, ◌-◌, ◌≤◌, ◌<◌, length, take, drop, replicate}
+use Rattle.std.specs.Prelude.{◌≡◌, List, ◌++◌, ℕ, ◌+◌, ◌-◌, ◌≤◌, ◌<◌, length, get_or, take, drop, replicate}
 use Rattle.pgs_bitmap_check.specs.Bitmap.{bitmap_of}
 use Rattle.pgs_bitmap_store.specs.declared.bitmap.Spot.{Spot}
 
 -- so many pixels further on, after so many bytes
 abbrev pub further : Spot → (pixels bytes : ℕ) → Spot
 further spot pixels bytes = record { at = spot.at + bytes; out = spot.out + pixels }
+
+-- a code that begins with the byte 00 stands at a place, and its second byte is from `low` to below `high`
+pub record Escape (bytes : List ℕ) (at low high : ℕ) : Type 0 where
+  pub zero : get_or bytes at 0 ≡ 0
+  pub from_low : low ≤ get_or bytes (at + 1) 0
+  pub to_high : get_or bytes (at + 1) 0 < high
 
 -- A run is filled from a place on as far as there is room, to the place `to`.
 pub record Filled (before : List ℕ) (from count color to : ℕ) (after : List ℕ) : Type 0 where

@@ -2,8 +2,8 @@
 ghost use Rattle.std.specs.Prelude.{◌≡◌, ◌++◌, ◌+◌, ◌^◌, ◌≤◌, ◌<◌, length, get_or, take, drop, replicate};
 ghost use Rattle.pgs_run_length.specs.Literals.{Literals};
 ghost use Rattle.pgs_bitmap_check.specs.Bitmap.{bitmap_of};
-ghost use Rattle.pgs_bitmap_store.specs.Padding.{padded_to};
-ghost use Rattle.pgs_bitmap_store.specs.Progress.{further, Filled, Storing, Stored};
+ghost use Rattle.pgs_bitmap_store.specs.Padding.{laid_over, padded_to};
+ghost use Rattle.pgs_bitmap_store.specs.Progress.{further, Escape, Filled, Storing, Stored};
 
 use pgs_run_length::code::{Code, eight_literals, long_count, next_code, short_count};
 
@@ -18,7 +18,8 @@ fn fill_exactly(pixels: &mut [u8], from: usize, count: usize, color: u8)
 // Fills as much of a run as there is room for, touches no other pixel, and answers the place after it.
 fn fill_run(pixels: &mut [u8], from: usize, count: usize, color: u8) -> usize
     requires { from ≤ length pixels.old }
-    ensures { Filled pixels.old from count color result pixels.new }
+    ensures filled { Filled pixels.old from count color result pixels.new }
+    ensures behind { drop result pixels.new ≡ drop result pixels.old }
 {
     let stored = count.min(pixels.len() - from);
     fill_exactly(pixels, from, stored, color);
@@ -38,9 +39,9 @@ fn fill_short(pixels: &mut [u8], from: usize, count: usize, color: u8)
 }
 
 // How far storing has come: the place of the next code, and that of its first pixel.
-// Stays without the data and the pixels, and `Storing` a fact of the contracts: a struct that holds the pixels lent to it would have to say
-// in each contract that it holds the same loan still, in the place of that fact.
-#[derive(Clone, Copy)]
+// Stays without the data and the pixels, and `Storing` a fact of the contracts: with the data in it, each method would have to promise that
+// the spot after it has the same data, in the place of the argument, and with the pixels, that it holds the same loan.
+#[derive(Clone, Copy, Debug, PartialEq, Eq)]
 struct Spot {
     at: usize,
     out: usize,
@@ -60,7 +61,9 @@ impl Spot {
 
     // Stores the pixel of a byte that is one pixel, and no other.
     fn store_literal(self, data: &[u8], pixels: &mut [u8]) -> Spot
-        requires { (self.at < length «data».now) × (self.out < length pixels.old) × Storing «data».now pixels.old self }
+        requires there { self.at < length «data».now }
+        requires room { self.out < length pixels.old }
+        requires storing { Storing «data».now pixels.old self }
         ensures { (self.at ≤ result.at) × (result.at ≤ self.at + 1) × (result.out ≤ self.out + 1) × Storing «data».now pixels.new result }
     {
         let b = data[self.at];
@@ -73,7 +76,10 @@ impl Spot {
 
     // Stores a short run of a color, and the pixel by itself that mostly follows it.
     fn store_color(self, data: &[u8], pixels: &mut [u8]) -> Spot
-        requires { (self.at + 4 ≤ length «data».now) × (get_or «data».now self.at 0 ≡ 0) × (0x80 ≤ get_or «data».now (self.at + 1) 0) × (get_or «data».now (self.at + 1) 0 < 0xC0) × (self.out + 64 ≤ length pixels.old) × Storing «data».now pixels.old self }
+        requires there { self.at + 4 ≤ length «data».now }
+        requires code { Escape «data».now self.at 0x80 0xC0 }
+        requires room { self.out + 64 ≤ length pixels.old }
+        requires storing { Storing «data».now pixels.old self }
         ensures { (self.at < result.at) × Storing «data».now pixels.new result }
     {
         let count = short_count(data[self.at + 1]);
@@ -83,7 +89,9 @@ impl Spot {
 
     // Stores what mostly follows a run of color 0, as far as it is there: a pixel by itself, and a short run of a color.
     fn store_stroke(self, data: &[u8], pixels: &mut [u8]) -> Spot
-        requires { (self.at + 5 ≤ length «data».now) × (self.out + 65 ≤ length pixels.old) × Storing «data».now pixels.old self }
+        requires there { self.at + 5 ≤ length «data».now }
+        requires room { self.out + 65 ≤ length pixels.old }
+        requires storing { Storing «data».now pixels.old self }
         ensures { (self.at ≤ result.at) × Storing «data».now pixels.new result }
     {
         let spot = self.store_literal(data, pixels);
@@ -102,7 +110,10 @@ impl Spot {
 
     // Stores a long run of color 0, one of at most 128 pixels by a whole block and with the pixel by itself that mostly follows it.
     fn store_long_zeros(self, data: &[u8], pixels: &mut [u8]) -> Spot
-        requires { (self.at + 8 ≤ length «data».now) × (get_or «data».now self.at 0 ≡ 0) × (0x40 ≤ get_or «data».now (self.at + 1) 0) × (get_or «data».now (self.at + 1) 0 < 0x80) × (self.out + 129 ≤ length pixels.old) × Storing «data».now pixels.old self }
+        requires there { self.at + 8 ≤ length «data».now }
+        requires code { Escape «data».now self.at 0x40 0x80 }
+        requires room { self.out + 129 ≤ length pixels.old }
+        requires storing { Storing «data».now pixels.old self }
         ensures { (self.at < result.at) × Storing «data».now pixels.new result }
     {
         let count = long_count(data[self.at + 1], data[self.at + 2]);
@@ -119,7 +130,10 @@ impl Spot {
     // Stores the run of a code that begins with the byte 00, mostly with what follows it. An end of line is stored as a run of no pixels.
     // Runs of few pixels are stored by a whole block: the pixels after the run are stored later.
     fn store_escape(self, data: &[u8], pixels: &mut [u8]) -> Spot
-        requires { (self.at + 8 ≤ length «data».now) × (get_or «data».now self.at 0 ≡ 0) × (self.out + 129 ≤ length pixels.old) × Storing «data».now pixels.old self }
+        requires there { self.at + 8 ≤ length «data».now }
+        requires code { get_or «data».now self.at 0 ≡ 0 }
+        requires room { self.out + 129 ≤ length pixels.old }
+        requires storing { Storing «data».now pixels.old self }
         ensures { (self.at < result.at) × Storing «data».now pixels.new result }
     {
         let second = data[self.at + 1];
@@ -146,7 +160,10 @@ impl Spot {
     // test has read.
     // Stays byte by byte: `copy_from_slice` reads and stores one byte after another, and 1920 by 1080 noisy pixels take 2.23 ms, not 1.76.
     fn store_eight(self, data: &[u8], pixels: &mut [u8]) -> Spot
-        requires { (self.at + 8 ≤ length «data».now) × (self.out + 8 ≤ length pixels.old) × Literals «data».now self.at 8 × Storing «data».now pixels.old self }
+        requires there { self.at + 8 ≤ length «data».now }
+        requires literals { Literals «data».now self.at 8 }
+        requires room { self.out + 8 ≤ length pixels.old }
+        requires storing { Storing «data».now pixels.old self }
         ensures { (self.at < result.at) × Storing «data».now pixels.new result }
     {
         let a = data[self.at];
@@ -170,7 +187,9 @@ impl Spot {
 
     // Stores the pixels of one code or more, where none has bytes missing and there is room for the blocks of one turn.
     fn store_some(self, data: &[u8], pixels: &mut [u8]) -> Spot
-        requires { (self.at + 8 ≤ length «data».now) × (self.out + 129 ≤ length pixels.old) × Storing «data».now pixels.old self }
+        requires there { self.at + 8 ≤ length «data».now }
+        requires room { self.out + 129 ≤ length pixels.old }
+        requires storing { Storing «data».now pixels.old self }
         ensures { (self.at < result.at) × Storing «data».now pixels.new result }
     {
         let b = data[self.at];
@@ -184,36 +203,40 @@ impl Spot {
         self.further(1, 1)
     }
 
-    // Stores the pixels of the codes from here on, a code at a time, as far as there is room; answers the place after them.
-    // Stays a loop: the step is the size of the code just read, which no range counts.
+    // Stores the pixels of the codes from here on, a code at a time, as far as there is room, touches no other pixel, and answers the place
+    // after them.
+    // Stays a loop: each code may be refused, which ends the storing, and an iterator of the codes would hold the place that the spot has.
     fn store_rest(self, data: &[u8], pixels: &mut [u8]) -> usize
         requires { Storing «data».now pixels.old self }
-        ensures { Stored «data».now pixels.new result }
+        ensures stored { Stored «data».now pixels.new result }
+        ensures behind { drop result pixels.new ≡ drop result pixels.old }
     {
         let mut spot = self;
-        loop {
-            match next_code(data, spot.at) {
-                Ok(Some(Code::Run(run))) => {
+        while let Ok(Some(code)) = next_code(data, spot.at) {
+            match code {
+                Code::Run(run) => {
                     spot.out = fill_run(pixels, spot.out, run.count, run.color);
                     spot.at += run.taken;
                 }
-                Ok(Some(Code::LineEnd)) => {
-                    spot.at += 2;
-                }
-                Ok(None) => {
-                    return spot.out;
-                }
-                Err(_) => {
-                    return spot.out;
-                }
+                Code::LineEnd => spot.at += 2,
             }
         }
+        spot.out
     }
 }
 
-// Stores the pixels of the codes, as many as there is room for, and makes the pixels after them 0. Nothing is tested but the room: for a
-// caller that has read the bitmap through.
-// Stays a loop: the step is the size of the codes just read, which no range counts.
+// Stores the pixels of the codes, as many as there is room for, and touches no other. Nothing is tested but the room: for a caller that has
+// read the bitmap through.
+pub fn store_pixels(data: &[u8], pixels: &mut [u8])
+    ensures { pixels.new ≡ laid_over (bitmap_of «data».now) pixels.old }
+{
+    Spot { at: 0, out: 0 }.store_rest(data, pixels);
+}
+
+// Stores the pixels of the codes, as many as there is room for, and makes the pixels after them 0. Nothing is tested but the room, as in
+// `store_pixels`.
+// Stays a loop: a turn stores one code or several, while data and room are left for a whole turn, and `store_rest` goes on from the spot
+// reached.
 pub fn store_rle(data: &[u8], pixels: &mut [u8])
     ensures { pixels.new ≡ padded_to (length pixels.old) (bitmap_of «data».now) }
 {

@@ -1,4 +1,1 @@
-pub mod AheadLaws
-pub mod StoreLaws
-pub mod RoomLaws
-pub mod Answers
+pub mod PartLaws

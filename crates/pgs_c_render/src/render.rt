@@ -8,7 +8,7 @@ use pgs_render::render::render;
 fn shown_cells(width: u16, height: u16, pts: u32) -> [u64; 3]
     ensures { result ≡ width ∷ height ∷ pts ∷ [] }
 {
-    [width as u64, height as u64, pts as u64]
+    [u64::from(width), u64::from(height), u64::from(pts)]
 }
 
 pub fn pgs_render(

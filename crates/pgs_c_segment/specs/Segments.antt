@@ -1,8 +1,7 @@
 -- The calls that read a stream or a body: `pgs_parse_segments`, `pgs_parse_pcs`, `pgs_parse_wds`, `pgs_parse_pds`, `pgs_parse_ods`.
 -- Each parameter that a call may change is named as it was, and with a prime as it is.
 use Rattle.std.specs.Prelude.{ℕ, ◌≡◌, List}
-use Rattle.pgs_base.specs.Outcome.{delivery}
-use Rattle.pgs_calls.specs.Calls.{code_of, becomes, ListCall}
+use Rattle.pgs_calls.specs.Calls.{code_of, becomes, ListCall, NumbersCall}
 use Rattle.pgs_cells_ods.specs.OdsCells.{ods_cells}
 use Rattle.pgs_cells.specs.PcsCells.{pcs_cells}
 use Rattle.pgs_cells.specs.PdsCells.{pds_cells}
@@ -21,14 +20,14 @@ abbrev pub WdsCall : List ℕ → List (List ℕ) → List (List ℕ) → ℕ �
 WdsCall b list list' count count' r = ListCall (wds_verdict b) (window_rows b) list list' (window_count b) count count' r
 
 -- a PCS body: its numbers, its placements, and how many
-pub record PcsCall (b pcs pcs' : List ℕ) (list list' : List (List ℕ)) (count count' r : ℕ) : Type 0 where
-  pub call : ListCall (pcs_verdict b) (placement_rows b) list list' (placement_count b) count count' r
-  pub numbers : pcs' ≡ becomes (delivery (pcs_verdict b) (placement_rows b) list) (pcs_cells (pcs_of b)) pcs
+abbrev pub PcsCall : List ℕ → List ℕ → List ℕ → List (List ℕ) → List (List ℕ) → ℕ → ℕ → ℕ → Type 0
+PcsCall b pcs pcs' list list' count count' r =
+    NumbersCall (pcs_verdict b) (placement_rows b) list list' (pcs_cells (pcs_of b)) pcs pcs' (placement_count b) count count' r
 
 -- a PDS body: its numbers, its entries, and how many
-pub record PdsCall (b pds pds' : List ℕ) (list list' : List (List ℕ)) (count count' r : ℕ) : Type 0 where
-  pub call : ListCall (pds_verdict b) (entry_rows b) list list' (entry_count b) count count' r
-  pub numbers : pds' ≡ becomes (delivery (pds_verdict b) (entry_rows b) list) (pds_cells (pds_of b)) pds
+abbrev pub PdsCall : List ℕ → List ℕ → List ℕ → List (List ℕ) → List (List ℕ) → ℕ → ℕ → ℕ → Type 0
+PdsCall b pds pds' list list' count count' r =
+    NumbersCall (pds_verdict b) (entry_rows b) list list' (pds_cells (pds_of b)) pds pds' (entry_count b) count count' r
 
 -- an ODS body: its numbers and where its data stands
 pub record OdsCall (b ods ods' : List ℕ) (r : ℕ) : Type 0 where

@@ -31,7 +31,8 @@ pub fn pgs_parse_pcs(
 ) -> u8
     ensures { PcsCall body.now pcs.old pcs.new placements.old placements.new count.old count.new result }
 {
-    // Stays a match, as the next two: the numbers are set too, and to map the answer for `told` would be no shorter.
+    // Stays a match, as that of a PDS: a closure for `map` that stores the numbers was tried, and `map` does not promise that it is left
+    // uncalled where the answer is a refusal, so that the numbers stay was open. Stored before, the answer would be taken apart twice.
     match Pcs::parse(body, placements) {
         Err(why) => why.number(),
         Ok((numbers, placed)) => {
@@ -64,6 +65,7 @@ pub fn pgs_parse_pds(body: &[u8], pds: &mut [u8; 2], entries: &mut [[u8; 5]], co
 pub fn pgs_parse_ods(body: &[u8], ods: &mut [u64; 9]) -> u8
     ensures { OdsCall body.now ods.old ods.new result }
 {
+    // Stays a match: it sets no count, and `told` sets one.
     match Ods::parse(body) {
         Err(why) => why.number(),
         Ok((numbers, data)) => {

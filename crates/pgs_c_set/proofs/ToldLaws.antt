@@ -9,10 +9,10 @@ use Rattle.pgs_calls.proofs.CallLaws.{code-refused, code-accepted, stays, turns}
 use Rattle.pgs_c_told.specs.Told.{code_by, set_by}
 use Rattle.pgs_c_set.specs.Sets.{ObjectsCall, objects_call_verdict}
 use Rattle.pgs_reassembly.specs.Objects.{objects_of, objects_verdict}
-use Rattle.pgs_reassembly.specs.Reassembly.{Reassembled}
+use Rattle.pgs_reassembly.specs.Reassembly.{row_of, Reassembled}
 
 module _ {s : List ℕ} {k : ℕ} {scratch scratch' : List ℕ} {list list' : List (List ℕ)} {o : Outcome ℕ}
-    (d : Reassembled (objects_verdict k s) (objects_of k s) list list' scratch scratch' o) where
+    (d : Reassembled row_of (objects_verdict k s) (objects_of k s) list list' scratch scratch' o) where
   pub objects-refused : {n r : ℕ} (count : ℕ) → o ≡ refuses n → r ≡ n → ObjectsCall s k scratch scratch' list list' count count r
   objects-refused {n} count e q =
       record { code = code-refused down q; joined = d.written; listed = d.listed; counted = stays (length (objects_of k s)) count down }
@@ -34,7 +34,7 @@ module _ {s : List ℕ} {k : ℕ} {scratch scratch' : List ℕ} {list list' : Li
 
 -- what is told of an answer is what the call promises
 module _ {s : List ℕ} {k : ℕ} {scratch scratch' : List ℕ} {list list' : List (List ℕ)} where
-  pub objects-told : (o : Outcome ℕ) (count : ℕ) {m r : ℕ} → Reassembled (objects_verdict k s) (objects_of k s) list list' scratch scratch' o
+  pub objects-told : (o : Outcome ℕ) (count : ℕ) {m r : ℕ} → Reassembled row_of (objects_verdict k s) (objects_of k s) list list' scratch scratch' o
       → m ≡ set_by o count → r ≡ code_by o → ObjectsCall s k scratch scratch' list list' count m r
   objects-told (gives n) count d e q = rw (e, q) (objects-accepted d count refl)
   objects-told (refuses n) count d e q = rw (e, q) (objects-refused d count refl refl)

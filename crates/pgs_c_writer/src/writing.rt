@@ -63,7 +63,8 @@ pub fn pgs_write_segments(
 ) -> u8
     ensures { WritesCall stream.now writes out.old out.new accepted.old accepted.new written.old written.new result }
 {
-    // Stays a match: two counts are set, and to map the answer for `told` would be no shorter.
+    // Stays a match: two counts are set, and `map` does not promise that a closure that stores one of them is left uncalled where the answer
+    // is a refusal. Stored before, the answer would be taken apart twice.
     match write_segments(stream, writes as usize, out) {
         Err(why) => why.number(),
         Ok((taken, bytes)) => {

@@ -4,7 +4,7 @@ use mathlib.Core.List.{List}
 use Prim.Native.Nat.{ℕ}
 use Rattle.pgs_base.specs.Outcome.{Verdict, accepted, refused, Outcome, gives, refuses, delivery, Delivered}
 use Rattle.pgs_base.proofs.Outcomes.{gave, gave-value, turned_down}
-use Rattle.pgs_calls.specs.Calls.{code_of, becomes, ListCall}
+use Rattle.pgs_calls.specs.Calls.{code_of, becomes, ListCall, NumbersCall}
 
 -- a verdict's number, and a parameter under a verdict that is known
 pub code-refused : {v : Verdict} {k r : ℕ} → v ≡ refused k → r ≡ k → r ≡ code_of v
@@ -34,3 +34,16 @@ module _ {A X : Type 0} {v : Verdict} {x : X} {new before after : List A} {o : O
 
   pub list-accepted : {y : X} {m n : ℕ} (count : ℕ) → o ≡ gives y → m ≡ n → ListCall v new before after n count m 0
   list-accepted count e q = record { code = code-accepted (up e); listed = d.written; counted = turns count (up e) q }
+
+-- a call that sets the numbers of a body too
+module _ {A N : Type 0} (cells : N → List ℕ) {v : Verdict} {x : N × ℕ} {new before after : List A} {o : Outcome (N × ℕ)} (d : Delivered v x new before after o) where
+  pub numbers-refused : {k r : ℕ} (was : List ℕ) (count : ℕ) → o ≡ refuses k → r ≡ k → NumbersCall v new before after (cells x.0) was was x.1 count count r
+  numbers-refused was count e q = record { call = list-refused d x.1 count e q; numbers = stays (cells x.0) was (down d e) }
+
+  pub numbers-accepted : {y : N × ℕ} {now : List ℕ} (was : List ℕ) (count : ℕ) → o ≡ gives y → now ≡ cells y.0
+      → NumbersCall v new before after (cells x.0) was now x.1 count y.1 0
+  numbers-accepted was count e q =
+      record {
+        call = list-accepted d count e (ap (λ (p : N × ℕ). p.1) (value d e));
+        numbers = turns was (up d e) (q ∙ ap (λ (p : N × ℕ). cells p.0) (value d e));
+      }

@@ -18,3 +18,8 @@ pub record ListCall {A : Type 0} (verdict : Verdict) (new list list' : List A) (
   pub code : r ≡ code_of (delivery verdict new list)
   pub listed : list' ≡ laid (delivery verdict new list) new list
   pub counted : count' ≡ becomes (delivery verdict new list) n count
+
+-- and sets the numbers of a body too, as cells
+pub record NumbersCall {A : Type 0} (verdict : Verdict) (new list list' : List A) (cells was now : List ℕ) (n count count' r : ℕ) : Type 0 where
+  pub call : ListCall verdict new list list' n count count' r
+  pub numbers : now ≡ becomes (delivery verdict new list) cells was

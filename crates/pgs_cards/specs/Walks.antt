@@ -36,9 +36,12 @@ adding c n =
       height = c.height;
     }
 
--- how many objects a fragment opens
+-- whether a fragment opens an object, and how many it opens
+abbrev pub opens : Ods → Bool
+opens o = is_first (fragment_of o.last_in_sequence_flag)
+
 abbrev pub opened : Ods → ℕ
-opened o = pick (is_first (fragment_of o.last_in_sequence_flag)) 1 0
+opened o = pick (opens o) 1 0
 
 -- the card after one more segment
 abbrev pub card_after : Card → ℕ → ℕ → SegmentBody → Card

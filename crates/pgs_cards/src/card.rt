@@ -1,12 +1,12 @@
 // A card: what one line says of a display set (01, 'Bench samples').
 ghost use Rattle.std.specs.Prelude.{◌≡◌, ◌+◌, ◌<◌, ◌^◌};
-ghost use Rattle.pgs_cards.specs.Walks.{card_after, closes, opened};
+ghost use Rattle.pgs_cards.specs.Walks.{card_after, closes, opens};
 
 use pgs_ods::ods::Ods;
 use pgs_segment::segment::SegmentBody;
 use pgs_views::fragment_flag::FragmentFlag;
 
-#[derive(Clone, Copy, Default)]
+#[derive(Clone, Copy, Debug, Default, PartialEq, Eq)]
 pub(crate) struct Card {
     // the place of the set's PCS in the stream
     pub place: usize,
@@ -20,11 +20,11 @@ pub(crate) struct Card {
     pub height: u16,
 }
 
-// 1 where a fragment opens an object, else 0.
-fn opened_by(ods: Ods) -> usize
-    ensures { result ≡ opened ods }
+// Whether a fragment opens an object.
+fn opens(ods: Ods) -> bool
+    ensures { result ≡ opens ods }
 {
-    usize::from(FragmentFlag::from(ods.last_in_sequence_flag).is_first())
+    FragmentFlag::from(ods.last_in_sequence_flag).is_first()
 }
 
 // Whether a segment closes its set.
@@ -52,7 +52,7 @@ impl Card {
                 height: pcs.height,
             },
             SegmentBody::Ods(ods) => Card {
-                objects: self.objects + opened_by(ods),
+                objects: self.objects + usize::from(opens(ods)),
                 ..self
             },
             _ => self,

@@ -1,53 +1,52 @@
 // The card lines of a stream (01, 'Bench samples').
 ghost use Rattle.std.specs.Prelude.{◌≡◌, ◌≤◌, length};
 ghost use Rattle.pgs_base.specs.Outcome.{accepted, outcome, laid, Delivered};
-ghost use Rattle.pgs_set.specs.Sets.{set_count, sets_verdict};
 ghost use Rattle.pgs_cards.specs.Cards.{card_lines, cards_verdict};
 
 use crate::card::{Card, is_end};
 use crate::line::{LINE, put_line};
 use pgs_base::refusal::Refusal;
 use pgs_object::object::check_objects;
-use pgs_segment::segment::Segment;
+use pgs_segment::segment::SegmentBody;
+use pgs_set::display_sets::DisplaySets;
+use pgs_stream::segments::Segments;
 
 // In a stream of so many bytes every place has eight digits.
 pub const PLACE_LIMIT: usize = 4294967296;
 
-// Writes the lines of a stream whose sets are known to be accepted: one walk over its segments.
-fn fill_lines(s: &[u8], out: &mut [u8])
-    requires s_value { sets_verdict s.now ≡ accepted }
-    requires s_in_bounds { length (card_lines s.now) ≤ length out.old }
-    ensures { out.new ≡ laid accepted (card_lines s.now) out.old }
+// Writes the lines of the sets: one walk over the segments of their stream.
+fn fill_lines(sets: DisplaySets<'_>, out: &mut [u8])
+    requires { length (card_lines sets.stream.now) ≤ length out.old }
+    ensures { out.new ≡ laid accepted (card_lines sets.entry.stream.now) out.old }
 {
+    let s = sets.stream;
     let mut card = Card::default();
-    let mut at: usize = 0;
     let mut k: usize = 0;
-    // Stays a loop: the step is the size of the segment just read, which no range counts.
-    while at < s.len() {
-        // the stream was accepted, so its segments are
-        let segment = Segment::parse(&s[at..]).unwrap();
-        if is_end(segment.body) {
+    for segment in (Segments { stream: s, at: 0 }) {
+        let kind = segment.header.kind();
+        let bytes = segment.body(s);
+        // the stream was accepted, so its bodies are
+        let (body, _) = SegmentBody::parse(kind, bytes).unwrap();
+        if is_end(body) {
             let end = k + LINE;
             put_line(&mut out[k..end], card);
             k = end;
         } else {
-            card = card.after(at, segment.header.pts, segment.body);
+            card = card.after(segment.at, segment.header.pts, body);
         }
-        at += segment.used;
     }
 }
 
-// The same where there is room, n being the number of sets.
-pub(crate) fn put_lines(s: &[u8], n: usize, out: &mut [u8]) -> Result<usize, Refusal>
-    requires s_value { sets_verdict s.now ≡ accepted }
-    requires n_value { n ≡ set_count s.now }
-    ensures { Delivered accepted (length (card_lines s.now)) (card_lines s.now) out.old out.new (outcome result) }
+// The same where there is room.
+pub(crate) fn put_lines(sets: DisplaySets<'_>, out: &mut [u8]) -> Result<usize, Refusal>
+    ensures { let lines = card_lines sets.entry.stream.now in
+        Delivered accepted (length lines) lines out.old out.new (outcome result) }
 {
-    let need = n * LINE;
+    let need = sets.count * LINE;
     if out.len() < need {
         return Err(Refusal::BufferTooSmall);
     }
-    fill_lines(s, out);
+    fill_lines(sets, out);
     Ok(need)
 }
 
@@ -55,9 +54,9 @@ pub(crate) fn put_lines(s: &[u8], n: usize, out: &mut [u8]) -> Result<usize, Ref
 pub fn write_cards(s: &[u8], out: &mut [u8]) -> Result<usize, Refusal>
     ensures { Delivered (cards_verdict s.now) (length (card_lines s.now)) (card_lines s.now) out.old out.new (outcome result) }
 {
-    let n = check_objects(s)?;
+    let count = check_objects(s)?;
     if PLACE_LIMIT < s.len() {
         return Err(Refusal::NotEncodable);
     }
-    put_lines(s, n, out)
+    put_lines(DisplaySets { stream: s, count }, out)
 }

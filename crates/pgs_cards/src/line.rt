@@ -46,12 +46,12 @@ pub(crate) fn put_line(out: &mut [u8], card: Card)
     ensures { out.new ≡ line_of card }
 {
     put_hex(out, 0, 8, card.place as u64);
-    put_hex(out, 8, 8, card.pts as u64);
-    put_hex(out, 16, 4, card.composition_number as u64);
-    put_hex(out, 20, 2, card.composition_state as u64);
-    put_hex(out, 22, 2, card.palette_id as u64);
+    put_hex(out, 8, 8, u64::from(card.pts));
+    put_hex(out, 16, 4, u64::from(card.composition_number));
+    put_hex(out, 20, 2, u64::from(card.composition_state));
+    put_hex(out, 22, 2, u64::from(card.palette_id));
     put_hex(out, 24, 2, card.objects as u64);
-    put_hex(out, 26, 4, card.width as u64);
-    put_hex(out, 30, 4, card.height as u64);
+    put_hex(out, 26, 4, u64::from(card.width));
+    put_hex(out, 30, 4, u64::from(card.height));
     out[34] = b'\n';
 }

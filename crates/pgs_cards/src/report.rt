@@ -6,6 +6,7 @@ ghost use Rattle.pgs_cards.specs.Reports.{refusal_line, report_of};
 use crate::cards::put_lines;
 use pgs_base::refusal::Refusal;
 use pgs_object::object::check_objects;
+use pgs_set::display_sets::DisplaySets;
 
 // The longest input that is read.
 pub const INPUT_LIMIT: usize = 65536;
@@ -44,7 +45,7 @@ pub fn write_report(s: &[u8], out: &mut [u8]) -> Result<usize, Refusal>
         return put_text(b"TOO LONG\n", out);
     }
     match check_objects(s) {
-        Ok(n) => put_lines(s, n, out),
+        Ok(count) => put_lines(DisplaySets { stream: s, count }, out),
         Err(why) => put_refusal(why.number(), out),
     }
 }

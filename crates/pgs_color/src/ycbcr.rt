@@ -23,14 +23,14 @@ pub struct Rgb8 {
 fn luma(y: u8) -> f32
     ensures { result ≡ luma y }
 {
-    (y as f32 - 16.0) * (255.0 / 219.0)
+    (f32::from(y) - 16.0) * (255.0 / 219.0)
 }
 
 // What Cb or Cr, times its decimal, adds to a sum or takes from it.
 fn chroma(decimal: f32, c: u8) -> f32
     ensures { result ≡ chroma decimal c }
 {
-    decimal * (c as f32 - 128.0) * (255.0 / 224.0)
+    decimal * (f32::from(c) - 128.0) * (255.0 / 224.0)
 }
 
 // Each operation is one of f32's, in 01's order.

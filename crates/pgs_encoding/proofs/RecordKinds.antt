@@ -1,7 +1,7 @@
 -- Windows, entries and placements: each is written back from what was read, and read back from what was written. Assumes nothing.
 use Rattle.pgs_pcs.specs.declared.pcs.CompositionObjectCrop.{CompositionObjectCrop}
 use Rattle.std.specs.Prelude.{Option, None, Some}
-use mathlib.Core.Path.{◌≡◌, refl, sym, ap, ◌∙◌, subst}
+use mathlib.Core.Path.{◌≡◌, refl, sym, ap, ◌∙◌}
 use mathlib.Core.Bool.{Bool, true, false}
 use mathlib.Core.List.{List, [], ◌∷◌, ◌++◌}
 use Prim.Native.Nat.{ℕ, ◌≤◌}
@@ -16,8 +16,8 @@ use Rattle.pgs_records.proofs.RecordLaws.{first_fits, rest-fits}
 use Rattle.pgs_pcs.specs.declared.pcs.CompositionObject.{CompositionObject}
 use Rattle.pgs_pds.specs.declared.pds.PaletteEntry.{PaletteEntry}
 use Rattle.pgs_wds.specs.declared.wds.Window.{Window}
-use Rattle.pgs_encoding.specs.Encode.{window_fields, entry_fields, placement_fields, crop_fields}
-use Rattle.pgs_encoding.specs.Layout.{Field, written, all_fit}
+use Rattle.pgs_encoding.specs.Encode.{window_fields, entry_fields, placement_fields}
+use Rattle.pgs_encoding.specs.Layout.{written, all_fit}
 use Rattle.pgs_encoding.specs.Writable.{crop_where, placement_writable}
 use Rattle.pgs_encoding.proofs.LayoutLaws.{values, length-written, read-fields, write-fields, fit-fields}
 use Rattle.pgs_encoding.proofs.RecordBytes.{Kept, Read}
@@ -82,25 +82,11 @@ placement-kept l h q = go (cropped l) refl
 
 pub placement-read : Read placement_fields placement_of placement_size placement_writable
 unfolding Read
-placement-read p r ok = go p.cropping refl
+placement-read p r = go p.cropping
   where
-    agrees : crop_where (eqb p.object_cropped_flag 0x40) p.cropping ≡ true
-    agrees = first_fits (crop_where (eqb p.object_cropped_flag 0x40) p.cropping) (all_fit (placement_fields p)) ok
-
-    fit : all_fit (placement_fields p) ≡ true
-    fit = rest-fits (crop_where (eqb p.object_cropped_flag 0x40) p.cropping) (all_fit (placement_fields p)) ok
-
-    base : (c : Option CompositionObjectCrop) → List Field
-    base c =
-        (2, p.object_id)
-        ∷ (1, p.window_id)
-        ∷ (1, p.object_cropped_flag)
-        ∷ (2, p.object_horizontal_position)
-        ∷ (2, p.object_vertical_position)
-        ∷ crop_fields c
-
-    result : List ℕ → Option CompositionObjectCrop → CompositionObject
-    result n c =
+    -- the numbers, with this crop
+    made : List ℕ → Option CompositionObjectCrop → CompositionObject
+    made n c =
         record {
           object_id = get_or n 0 0;
           window_id = get_or n 1 0;
@@ -110,38 +96,31 @@ placement-read p r ok = go p.cropping refl
           cropping = c;
         }
 
+    with_crop : Option CompositionObjectCrop → CompositionObject
+    with_crop = made (values (placement_fields p))
+
+    test : Bool
+    test = eqb p.object_cropped_flag 0x40
+
     crop : List ℕ → Option CompositionObjectCrop
     crop n =
         Some
         (record { horizontal_position = get_or n 5 0; vertical_position = get_or n 6 0; width = get_or n 7 0; height = get_or n 8 0 })
 
-    Sized : List Field → Type 0
-    Sized fs = placement_size (written fs ++ r) ≡ length (written fs)
-
-    Same : List Field → Type 0
-    Same fs = placement_of (written fs ++ r) ≡ p
-
-    go : (c : Option CompositionObjectCrop) → p.cropping ≡ c
-        → (placement_size (written (placement_fields p) ++ r) ≡ length (written (placement_fields p))) × (placement_of (written (placement_fields p) ++ r) ≡ p)
-    go None q =
-        let fs = base None in
-        let same : placement_fields p ≡ fs = ap base q in
-        let flag : eqb p.object_cropped_flag 0x40 ≡ false = not-true _ (rw q at agrees) in
-        let numbers = read-fields fs [] r 0 refl (sym (ap all_fit same) ∙ fit) in
+    go : (c : Option CompositionObjectCrop) → placement_writable (with_crop c) ≡ true
+        → (placement_size (written (placement_fields (with_crop c)) ++ r) ≡ length (written (placement_fields (with_crop c))))
+        × (placement_of (written (placement_fields (with_crop c)) ++ r) ≡ with_crop c)
+    go None ok =
+        let fs = placement_fields (with_crop None) in
+        let numbers = read-fields fs [] r 0 refl (rest-fits (crop_where test None) (all_fit fs) ok) in
+        let flag : test ≡ false = not-true _ (first_fits (crop_where test None) (all_fit fs) ok) in
         let plain : cropped (written fs ++ r) ≡ false = ap (λ (n : List ℕ). eqb (get_or n 2 0) 0x40) numbers ∙ flag in
         let none : cropping_of (written fs ++ r) ≡ None = simp plain in
-        let size : placement_size (written fs ++ r) ≡ length (written fs) = simp plain (sym (length-written fs)) in
-        let read : placement_of (written fs ++ r) ≡ p
-        = ap (λ (n : List ℕ). result n (cropping_of (written fs ++ r))) numbers ∙ ap (result (values fs)) (none ∙ sym q) in
-        (subst Sized (sym same) size, subst Same (sym same) read)
-    go (Some c) q =
-        let fs = base (Some c) in
-        let same : placement_fields p ≡ fs = ap base q in
-        let flag : eqb p.object_cropped_flag 0x40 ≡ true = rw q at agrees in
-        let numbers = read-fields fs [] r 0 refl (sym (ap all_fit same) ∙ fit) in
+        (simp plain (sym (length-written fs)), ap (λ (n : List ℕ). made n (cropping_of (written fs ++ r))) numbers ∙ ap (made (values fs)) none)
+    go (Some c) ok =
+        let fs = placement_fields (with_crop (Some c)) in
+        let numbers = read-fields fs [] r 0 refl (rest-fits (crop_where test (Some c)) (all_fit fs) ok) in
+        let flag : test ≡ true = first_fits (crop_where test (Some c)) (all_fit fs) ok in
         let has : cropped (written fs ++ r) ≡ true = ap (λ (n : List ℕ). eqb (get_or n 2 0) 0x40) numbers ∙ flag in
         let one : cropping_of (written fs ++ r) ≡ Some c = simp has (ap crop numbers) in
-        let size : placement_size (written fs ++ r) ≡ length (written fs) = simp has (sym (length-written fs)) in
-        let read : placement_of (written fs ++ r) ≡ p
-        = ap (λ (n : List ℕ). result n (cropping_of (written fs ++ r))) numbers ∙ ap (result (values fs)) (one ∙ sym q) in
-        (subst Sized (sym same) size, subst Same (sym same) read)
+        (simp has (sym (length-written fs)), ap (λ (n : List ℕ). made n (cropping_of (written fs ++ r))) numbers ∙ ap (made (values fs)) one)

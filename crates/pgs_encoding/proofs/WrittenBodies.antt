@@ -15,12 +15,12 @@ use Rattle.pgs_views.proofs.Views.{raw-type}
 use Rattle.pgs_views.specs.declared.segment_type.SegmentType.{SegmentType}
 use Rattle.pgs_views.specs.declared.segment_type.SegmentType.TheVariants as kinds
 use Rattle.pgs_segment.specs.Fields.{BodyFields, pcs, wds, pds, ods, end, other, body_verdict, body_of, kind_byte}
-use Rattle.pgs_ods.specs.OdsBody.{ods_of, ods_data, ods_verdict, flag_of, head_size, dimensions_of}
+use Rattle.pgs_ods.specs.OdsBody.{ods_of, ods_data, flag_of, head_size, dimensions_of}
 use Rattle.pgs_pcs.specs.PcsBody.{pcs_of, placement_of, placement_size, placement_count, placements_of}
 use Rattle.pgs_pds.specs.PdsBody.{pds_of, entry_of, entry_size, entry_count, entries_of}
 use Rattle.pgs_records.specs.Records.{records, records_fit}
 use Rattle.pgs_wds.specs.WdsBody.{window_of, window_size, window_count, windows_of}
-use Rattle.pgs_ods.specs.declared.ods.Dimensions.{Dimensions}
+use Rattle.pgs_base.specs.declared.dimensions.Dimensions.{Dimensions}
 use Rattle.pgs_ods.specs.declared.ods.Ods.{Ods}
 use Rattle.pgs_pcs.specs.declared.pcs.CompositionObject.{CompositionObject}
 use Rattle.pgs_pcs.specs.declared.pcs.Pcs.{Pcs}
@@ -28,7 +28,7 @@ use Rattle.pgs_pds.specs.declared.pds.PaletteEntry.{PaletteEntry}
 use Rattle.pgs_pds.specs.declared.pds.Pds.{Pds}
 use Rattle.pgs_wds.specs.declared.wds.Window.{Window}
 use Rattle.pgs_records.proofs.RecordLaws.{first_fits, rest-fits}
-use Rattle.pgs_encoding.specs.Encode.{body_bytes, pcs_fields, placement_fields, window_fields, pds_fields, entry_fields, ods_fields, dimension_fields}
+use Rattle.pgs_encoding.specs.Encode.{body_bytes, pcs_fields, placement_fields, window_fields, pds_fields, entry_fields, ods_fields}
 use Rattle.pgs_encoding.specs.Layout.{Field, written, all_fit, each, record_bytes}
 use Rattle.pgs_encoding.specs.Writable.{body_writable, placement_writable, unknown_kind, dimensions_where}
 use Rattle.pgs_encoding.proofs.LayoutLaws.{values, length-written, read-fields}
@@ -124,26 +124,11 @@ read-pds p es e =
     made : List ℕ → Pds
     made n = record { palette_id = get_or n 0 0; palette_version_number = get_or n 1 0 }
 
+-- (an ODS is what it is with its dimensions: the two cases are those of a value that may be absent)
 read-ods : (o : Ods) (d : List ℕ) → body_writable (ods o d) ≡ true → ReadBody kinds.Ods (ods o d)
-read-ods o d e = go o.dimensions refl
+read-ods o d = go o.dimensions
   where
-    test : Bool
-    test = is_first (fragment_of o.last_in_sequence_flag)
-
-    agrees : dimensions_where (is_first (fragment_of o.last_in_sequence_flag)) o.dimensions ≡ true
-    agrees = first_fits (dimensions_where (is_first (fragment_of o.last_in_sequence_flag)) o.dimensions) (all_fit (ods_fields o)) e
-
-    fit : all_fit (ods_fields o) ≡ true
-    fit = rest-fits (dimensions_where (is_first (fragment_of o.last_in_sequence_flag)) o.dimensions) (all_fit (ods_fields o)) e
-
-    base : Option Dimensions → List Field
-    base x =
-        (2, o.object_id)
-        ∷ (1, o.object_version_number)
-        ∷ (1, o.last_in_sequence_flag)
-        ∷ (3, o.object_data_length)
-        ∷ dimension_fields x
-
+    -- the numbers, with these dimensions
     made : List ℕ → Option Dimensions → Ods
     made n x =
         record {
@@ -154,43 +139,37 @@ read-ods o d e = go o.dimensions refl
           dimensions = x;
         }
 
-    Taken : List Field → Type 0
-    Taken fs = ods_verdict (written fs ++ d) ≡ accepted
+    with_dimensions : Option Dimensions → Ods
+    with_dimensions = made (values (ods_fields o))
 
-    Same : List Field → Type 0
-    Same fs = ◌≡◌ {A = BodyFields} (ods (ods_of (written fs ++ d)) (ods_data (written fs ++ d))) (ods o d)
+    test : Bool
+    test = is_first (fragment_of o.last_in_sequence_flag)
 
-    go : (x : Option Dimensions) → o.dimensions ≡ x → ReadBody kinds.Ods (ods o d)
-    go None q =
-        let fs = base None in
+    go : (x : Option Dimensions) → body_writable (ods (with_dimensions x) d) ≡ true → ReadBody kinds.Ods (ods (with_dimensions x) d)
+    go None e =
+        let fs = ods_fields (with_dimensions None) in
         let b = written fs ++ d in
-        let eqf : ods_fields o ≡ fs = ap base q in
-        let numbers = read-fields fs [] d 0 refl (sym (ap all_fit eqf) ∙ fit) in
-        let flag : is_first (fragment_of o.last_in_sequence_flag) ≡ false = not-true _ (rw q at agrees) in
+        let numbers = read-fields fs [] d 0 refl (rest-fits (dimensions_where test None) (all_fit fs) e) in
+        let flag : test ≡ false = not-true _ (first_fits (dimensions_where test None) (all_fit fs) e) in
         let later : is_first (fragment_of (flag_of b)) ≡ false = ap (λ (n : List ℕ). is_first (fragment_of (get_or n 2 0))) numbers ∙ flag in
         let long : 7 ≤ length b = rw (length-append, length-written fs) (omega arith) in
         let none : dimensions_of b ≡ None = simp later in
         let size : head_size (flag_of b) ≡ 7 = simp later in
-        let taken : ods_verdict b ≡ accepted = simp (le-leb 7 (length b) long, size) in
-        let head : ods_of b ≡ o = ap (λ (n : List ℕ). made n (dimensions_of b)) numbers ∙ ap (made (values fs)) (none ∙ sym q) in
+        let head : ods_of b ≡ with_dimensions None = ap (λ (n : List ℕ). made n (dimensions_of b)) numbers ∙ ap (made (values fs)) none in
         let data' : ods_data b ≡ d = ap (λ (k : ℕ). drop k b) size ∙ drop_at (written fs) d 7 (length-written fs) in
-        let same : Same fs = λ i. ods (head i) (data' i) in
-        record { taken = subst Taken (sym eqf) taken; same = subst Same (sym eqf) same }
-    go (Some dims) q =
-        let fs = base (Some dims) in
+        record { taken = simp (le-leb 7 (length b) long, size); same = λ i. ods (head i) (data' i) }
+    go (Some dims) e =
+        let fs = ods_fields (with_dimensions (Some dims)) in
         let b = written fs ++ d in
-        let eqf : ods_fields o ≡ fs = ap base q in
-        let numbers = read-fields fs [] d 0 refl (sym (ap all_fit eqf) ∙ fit) in
-        let flag : is_first (fragment_of o.last_in_sequence_flag) ≡ true = rw q at agrees in
+        let numbers = read-fields fs [] d 0 refl (rest-fits (dimensions_where test (Some dims)) (all_fit fs) e) in
+        let flag : test ≡ true = first_fits (dimensions_where test (Some dims)) (all_fit fs) e in
         let first : is_first (fragment_of (flag_of b)) ≡ true = ap (λ (n : List ℕ). is_first (fragment_of (get_or n 2 0))) numbers ∙ flag in
         let long : 11 ≤ length b = rw (length-append, length-written fs) (omega arith) in
         let size : head_size (flag_of b) ≡ 11 = simp first in
         let both : dimensions_of b ≡ Some dims = simp first (ap (λ (n : List ℕ). Some (record { width = get_or n 4 0; height = get_or n 5 0 })) numbers) in
-        let taken : ods_verdict b ≡ accepted = simp (le-leb 7 (length b) (omega arith), size, le-leb 11 (length b) long) in
-        let head : ods_of b ≡ o = ap (λ (n : List ℕ). made n (dimensions_of b)) numbers ∙ ap (made (values fs)) (both ∙ sym q) in
+        let head : ods_of b ≡ with_dimensions (Some dims) = ap (λ (n : List ℕ). made n (dimensions_of b)) numbers ∙ ap (made (values fs)) both in
         let data' : ods_data b ≡ d = ap (λ (k : ℕ). drop k b) size ∙ drop_at (written fs) d 11 (length-written fs) in
-        let same : Same fs = λ i. ods (head i) (data' i) in
-        record { taken = subst Taken (sym eqf) taken; same = subst Same (sym eqf) same }
+        record { taken = simp (le-leb 7 (length b) (omega arith), size, le-leb 11 (length b) long); same = λ i. ods (head i) (data' i) }
 
 -- a byte that is none of the five is an unknown kind's own
 pub unknown-kind : (k : ℕ) → unknown_kind (type_of k) ≡ true → type_of k ≡ kinds.Other k

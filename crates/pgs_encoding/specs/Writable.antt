@@ -10,7 +10,7 @@ use Rattle.pgs_base.specs.Outcome.{Verdict, unless, pick}
 use Rattle.pgs_views.specs.declared.segment_type.SegmentType.{SegmentType}
 use Rattle.pgs_views.specs.declared.segment_type.SegmentType.TheVariants as kinds
 use Rattle.pgs_segment.specs.Fields.{BodyFields, pcs, wds, pds, ods, end, other, SegmentFields, kind_byte}
-use Rattle.pgs_ods.specs.declared.ods.Dimensions.{Dimensions}
+use Rattle.pgs_base.specs.declared.dimensions.Dimensions.{Dimensions}
 use Rattle.pgs_ods.specs.declared.ods.Ods.{Ods}
 use Rattle.pgs_pcs.specs.declared.pcs.CompositionObject.{CompositionObject}
 use Rattle.pgs_encoding.specs.Encode.{head_fields, placement_fields, pcs_fields, window_fields, pds_fields, entry_fields, ods_fields, body_bytes}

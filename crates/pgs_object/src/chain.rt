@@ -1,176 +1,204 @@
 // The fragments of a display set, and the chains that they make up (01, module 7).
-ghost use Rattle.std.specs.Prelude.{◌≡◌, ◌+◌, ◌≤◌, ◌<◌, ◌^◌, true, false, length, take, drop};
-ghost use Rattle.pgs_base.specs.Outcome.{accepted, outcome};
+ghost use Rattle.std.specs.Prelude.{◌≡◌, ◌+◌, ◌≤◌, ◌<◌, ◌^◌, true, [], ◌∷◌, ◌++◌, map, length, take, drop};
+ghost use Rattle.pgs_base.specs.Outcome.{accepted, verdict_of};
 ghost use Rattle.pgs_segment.specs.OneSegment.{segment_type, used_by};
 ghost use Rattle.pgs_stream.specs.Stream.{step_verdict};
-ghost use Rattle.pgs_reassembly.specs.Objects.{is_ods, width_in, height_in, fragment_at};
+ghost use Rattle.pgs_reassembly.specs.Objects.{
+  chains_of,
+  first_verdict,
+  is_ods,
+  next_verdict,
+  object_limit,
+  verdict_after,
+};
 ghost use Rattle.pgs_reassembly.specs.Tables.{
+  chain_row,
+  extended,
+  fragment_in,
   fragment_numbers,
-  row_with,
-  total,
-  Took,
-  FoundChains,
   fragments_left,
+  is_closing,
+  is_opening,
+  new_row,
+  row_with,
+  rows_after,
+  state_in,
+  take_verdict,
+  total,
+  Leaves,
 };
 
+use crate::object::OBJECT_LIMIT;
 use pgs_base::refusal::Refusal;
-use pgs_ods::ods::{Dimensions, Ods};
+use pgs_ods::ods::Ods;
 use pgs_reassembly::{ChainRow, FragmentNumbers};
-use pgs_segment::header::{SegmentHeader, header_at};
+use pgs_segment::header::SegmentHeader;
 use pgs_set::open_set::OpenSet;
-use pgs_set::set::is_end;
+use pgs_stream::segments::PlacedSegment;
 use pgs_views::fragment_flag::FragmentFlag;
 use pgs_views::segment_type::SegmentType;
+use std::marker::Model;
 
-// Stays a table whose first n rows are the chains, with n beside it: nothing allocates, so that there is no `Vec` whose length would be n.
-
+// Whether a segment is a fragment of an object.
+// Stays a function: of a derived `==` a proof gets a comparison of the parts of the two values (`denote.Enum.Compared`), which a lemma of six
+// cases would have to turn into the specification's `is_ods`; here there is none.
 pub(crate) fn is_ods(kind: SegmentType) -> bool
     ensures { result ≡ is_ods kind }
 {
     matches!(kind, SegmentType::Ods)
 }
 
-// The width and the height of a fragment, 0 and 0 where it has none.
-fn size_in(dimensions: Option<Dimensions>) -> (usize, usize)
-    ensures { result ≡ (width_in dimensions, height_in dimensions) }
+// The fragment in a segment of an accepted stream, which is known to be an ODS.
+pub(crate) fn read_fragment(s: &[u8], segment: PlacedSegment) -> FragmentNumbers
+    requires step { step_verdict (drop segment.at s.now) ≡ accepted }
+    requires kind { is_ods (segment_type (drop segment.at s.now)) ≡ true }
+    requires end { segment.end ≡ segment.at + used_by (drop segment.at s.now) }
+    ensures { result ≡ fragment_numbers (fragment_in s.now segment) }
 {
-    match dimensions {
-        None => (0, 0),
-        Some(size) => (size.width as usize, size.height as usize),
-    }
-}
-
-// The fragment in the segment at `at`, which is known to be an ODS of `used` bytes.
-pub(crate) fn read_fragment(s: &[u8], at: usize, used: usize) -> FragmentNumbers
-    requires s_value { step_verdict (drop at s.now) ≡ accepted }
-    requires s_value_2 { is_ods (segment_type (drop at s.now)) ≡ true }
-    requires used_value { used ≡ used_by (drop at s.now) }
-    ensures { result ≡ fragment_numbers (fragment_at at (drop at s.now)) }
-{
+    let body = segment.at + SegmentHeader::SIZE;
     // the segment was accepted, so its body is
-    let (ods, data) = Ods::parse(&s[at + SegmentHeader::SIZE..at + used]).unwrap();
-    let (width, height) = size_in(ods.dimensions);
-    let flag = FragmentFlag::from(ods.last_in_sequence_flag);
+    let (ods, data) = Ods::parse(&s[body..segment.end]).unwrap();
     FragmentNumbers {
-        id: ods.object_id as usize,
-        version: ods.object_version_number as usize,
-        width,
-        height,
-        declared: ods.object_data_length as usize,
-        first: flag.is_first(),
-        last: flag.is_last(),
-        place: at,
-        start: at + SegmentHeader::SIZE + data.start,
+        place: segment.at,
+        ods,
+        start: body + data.start,
         len: data.len,
     }
 }
 
-// The number of the first row with this id, or of rows where there is none.
-fn find_row(rows: &[ChainRow], id: usize) -> usize
-    ensures { result ≡ row_with id rows.now }
+fn is_opening(f: FragmentNumbers) -> bool
+    ensures { result ≡ is_opening f }
 {
-    rows.iter()
-        .position(|row| row.id == id)
-        .unwrap_or(rows.len())
+    FragmentFlag::from(f.ods.last_in_sequence_flag).is_first()
 }
 
-// A first fragment opens a chain, unless its id is known, which stands at row i, or the table is full.
-fn open_chain(
-    table: &mut [ChainRow],
-    n: usize,
-    i: usize,
-    f: FragmentNumbers,
-) -> Result<usize, Refusal>
-    requires n_in_bounds { n ≤ length table.old }
-    requires i_value { i ≡ row_with f.id (take n table.old) }
-    requires first_value { f.first ≡ true }
-    ensures { Took table.old table.new n f (outcome result) }
+fn is_closing(f: FragmentNumbers) -> bool
+    ensures { result ≡ is_closing f }
 {
-    if i < n {
-        if table[i].closed {
-            return Err(Refusal::DuplicateObject);
-        }
-        return Err(Refusal::FirstFragmentWhileOpen);
-    }
-    if n < table.len() {
-        table[n] = ChainRow {
-            id: f.id,
-            version: f.version,
-            width: f.width,
-            height: f.height,
-            declared: f.declared,
-            closed: f.last,
-            copied: false,
-            place: f.place,
-            start: f.start,
-            len: f.len,
-        };
-        return Ok(n + 1);
-    }
-    Err(Refusal::TooManyObjects)
+    FragmentFlag::from(f.ods.last_in_sequence_flag).is_last()
 }
 
-// A continuation extends the chain of its id, which stands at row i, if it is open.
-fn continue_chain(
-    table: &mut [ChainRow],
-    n: usize,
-    i: usize,
-    f: FragmentNumbers,
-) -> Result<usize, Refusal>
-    requires n_in_bounds { n ≤ length table.old }
-    requires i_value { i ≡ row_with f.id (take n table.old) }
-    requires first_value { f.first ≡ false }
-    requires len_bound { total (take n table.old) + f.len < 2 ^ 64 }
-    ensures { Took table.old table.new n f (outcome result) }
-{
-    if i < n {
-        let row = table[i];
-        if row.closed {
-            return Err(Refusal::FragmentAfterLast);
-        }
-        table[i] = ChainRow {
-            closed: f.last,
-            copied: true,
-            len: row.len + f.len,
-            ..row
-        };
-        return Ok(n);
-    }
-    Err(Refusal::FragmentWithoutFirst)
+// The chains of a set, in first-seen order.
+// Stays an array with a count: nothing allocates, so that there is no `Vec`. The kit's `ArrayVec` does not allocate either, but is no
+// plainer here: a whole library for one table, of which only `push`, `clear` and the slice would be used.
+#[derive(Drop)]
+pub(crate) struct ChainTable {
+    rows: [ChainRow; OBJECT_LIMIT],
+    // how many of the rows are chains
+    count: usize,
 }
 
-// Takes one more fragment into the table, whose first n rows are the chains of those before it.
-fn take_fragment(table: &mut [ChainRow], n: usize, f: FragmentNumbers) -> Result<usize, Refusal>
-    requires n_in_bounds { n ≤ length table.old }
-    requires len_bound { total (take n table.old) + f.len < 2 ^ 64 }
-    ensures { Took table.old table.new n f (outcome result) }
-{
-    let i = find_row(&table[..n], f.id);
-    if f.first {
-        open_chain(table, n, i, f)
-    } else {
-        continue_chain(table, n, i, f)
+impl Model for ChainTable {
+    ghost use Rattle.std.specs.Prelude.{List, take, ◌≤◌};
+    ghost use Rattle.pgs_reassembly.specs.declared.ChainRow.{ChainRow};
+
+    ghost Value = { List ChainRow };
+
+    ghost view = { λ t. take t.count t.rows };
+
+    ghost invariant = { λ t. t.count ≤ 64 };
+}
+
+impl ChainTable {
+    pub(crate) fn new() -> ChainTable
+        ensures { result ≡ [] }
+    {
+        ChainTable {
+            rows: [ChainRow::default(); OBJECT_LIMIT],
+            count: 0,
+        }
+    }
+
+    pub(crate) fn chains(&self) -> &[ChainRow]
+        ensures { result.now ≡ self.now }
+    {
+        &self.rows[..self.count]
+    }
+
+    // The number of the chain with this id.
+    fn find(&self, id: u16) -> Option<usize>
+        ensures { result ≡ row_with id self.now }
+    {
+        self.chains()
+            .iter()
+            .position(|row| row.first.ods.object_id == id)
+    }
+
+    // A first fragment opens a chain, unless its id is known or the table is full.
+    fn open(&mut self, f: FragmentNumbers) -> Result<(), Refusal>
+        ensures { Leaves (first_verdict object_limit (length self.old) (state_in f.ods.object_id self.old)) (self.old ++ (new_row f ∷ []))
+            self.new (verdict_of result) }
+    {
+        match self.find(f.ods.object_id) {
+            Some(i) => {
+                if self.rows[i].closed {
+                    return Err(Refusal::DuplicateObject);
+                }
+                Err(Refusal::FirstFragmentWhileOpen)
+            }
+            None => {
+                if self.count == OBJECT_LIMIT {
+                    return Err(Refusal::TooManyObjects);
+                }
+                self.rows[self.count] = ChainRow {
+                    first: f,
+                    closed: is_closing(f),
+                    copied: false,
+                    len: f.len,
+                };
+                self.count += 1;
+                Ok(())
+            }
+        }
+    }
+
+    // A continuation extends the chain of its id, if it is open.
+    fn extend(&mut self, f: FragmentNumbers) -> Result<(), Refusal>
+        requires { total self.old + f.len < 2 ^ 64 }
+        ensures { Leaves (next_verdict (state_in f.ods.object_id self.old)) (extended f self.old) self.new (verdict_of result) }
+    {
+        match self.find(f.ods.object_id) {
+            None => Err(Refusal::FragmentWithoutFirst),
+            Some(i) => {
+                let row = self.rows[i];
+                if row.closed {
+                    return Err(Refusal::FragmentAfterLast);
+                }
+                self.rows[i] = ChainRow {
+                    closed: is_closing(f),
+                    copied: true,
+                    len: row.len + f.len,
+                    ..row
+                };
+                Ok(())
+            }
+        }
+    }
+
+    // Takes one more fragment of the set.
+    fn take(&mut self, f: FragmentNumbers) -> Result<(), Refusal>
+        requires { total self.old + f.len < 2 ^ 64 }
+        ensures { Leaves (take_verdict self.old f) (rows_after self.old f) self.new (verdict_of result) }
+    {
+        if is_opening(f) {
+            self.open(f)
+        } else {
+            self.extend(f)
+        }
     }
 }
 
-// Finds the chains of an open set: their rows fill the table, whose length is the limit.
-pub(crate) fn find_chains(set: OpenSet<'_>, table: &mut [ChainRow]) -> Result<usize, Refusal>
-    ensures { FoundChains (fragments_left set.entry.stream.now set.entry.from) (length set.entry.stream.now) table.new (outcome result) }
+// Finds the chains of an open set, in place of those that the table held: one table serves all sets of a stream.
+pub(crate) fn find_chains(set: OpenSet<'_>, table: &mut ChainTable) -> Result<(), Refusal>
+    ensures chains { let fragments = fragments_left set.entry.stream.now set.entry.from in
+        Leaves (verdict_after object_limit [] fragments) (map chain_row (chains_of fragments)) table.new (verdict_of result) }
+    ensures small { verdict_of result ≡ accepted → total table.new ≤ length set.entry.stream.now }
 {
-    let s = set.stream;
-    let mut at = set.from;
-    let mut n: usize = 0;
-    // Stays a loop: the step is the size of the segment just read, which no range counts.
-    loop {
-        let header = header_at(s, at);
-        let used = SegmentHeader::SIZE + header.segment_size as usize;
-        let kind = SegmentType::from(header.segment_type);
-        if is_end(kind) {
-            return Ok(n);
+    table.count = 0;
+    for segment in set.segments() {
+        if is_ods(segment.header.kind()) {
+            table.take(read_fragment(set.stream, segment))?;
         }
-        if is_ods(kind) {
-            n = take_fragment(table, n, read_fragment(s, at, used))?;
-        }
-        at += used;
     }
+    Ok(())
 }

@@ -2,40 +2,38 @@
 ghost use Rattle.std.specs.Prelude.{◌≡◌, ◌≤◌, length};
 ghost use Rattle.pgs_base.specs.Outcome.{accepted, laid};
 ghost use Rattle.pgs_reassembly.specs.Objects.{joined, with_id};
-ghost use Rattle.pgs_reassembly.specs.Tables.{fragments_left, joined_in, joined_rows, Measured};
+ghost use Rattle.pgs_reassembly.specs.Tables.{fragments_left, joined_in, joined_rows, AllJoinable};
 
 use crate::chain::{is_ods, read_fragment};
 use pgs_reassembly::ChainRow;
-use pgs_segment::header::{SegmentHeader, header_at};
-use pgs_views::segment_type::SegmentType;
+use pgs_set::open_set::OpenSet;
 
-// Joins the data of the fragments with this id, from the segment at `from` on: `out` is its own part of the scratch, exactly as long.
-fn join_chain(s: &[u8], from: usize, id: usize, out: &mut [u8])
-    requires { length out.old ≡ length (joined (with_id id (fragments_left s.now from))) }
-    ensures { out.new ≡ joined (with_id id (fragments_left s.now from)) }
+// Joins the data of the fragments with this id, in the segments of an open set: `out` is its own part of the scratch, exactly as long.
+fn join_chain(set: OpenSet<'_>, id: u16, out: &mut [u8])
+    requires { length out.old ≡ length (joined (with_id id (fragments_left set.stream.now set.from))) }
+    ensures { out.new ≡ joined (with_id id (fragments_left set.entry.stream.now set.entry.from)) }
 {
-    let mut at = from;
     let mut k: usize = 0;
-    // Stays a loop: the step is the size of the segment just read, which no range counts.
-    while k < out.len() {
-        let header = header_at(s, at);
-        let used = SegmentHeader::SIZE + header.segment_size as usize;
-        if is_ods(SegmentType::from(header.segment_type)) {
-            let f = read_fragment(s, at, used);
-            if f.id == id {
+    for segment in set.segments() {
+        if is_ods(segment.header.kind()) {
+            let f = read_fragment(set.stream, segment);
+            if f.ods.object_id == id {
                 let stop = f.start + f.len;
                 let end = k + f.len;
-                out[k..end].copy_from_slice(&s[f.start..stop]);
+                out[k..end].copy_from_slice(&set.stream[f.start..stop]);
                 k = end;
+                // nothing is left to join, so that no further head is read
+                if k == out.len() {
+                    return;
+                }
             }
         }
-        at += used;
     }
 }
 
 // Joins the chains that are copied, one after another from the scratch's start, each in a part of its own.
 pub(crate) fn join_objects(s: &[u8], rows: &[ChainRow], scratch: &mut [u8])
-    requires measured { Measured s.now rows.now }
+    requires joinable { AllJoinable s.now rows.now }
     requires rows_in_bounds { joined_in rows.now ≤ length scratch.old }
     ensures { scratch.new ≡ laid accepted (joined_rows s.now rows.now) scratch.old }
 {
@@ -43,7 +41,11 @@ pub(crate) fn join_objects(s: &[u8], rows: &[ChainRow], scratch: &mut [u8])
     for row in rows {
         if row.copied {
             let end = at + row.len;
-            join_chain(s, row.place, row.id, &mut scratch[at..end]);
+            let open = OpenSet {
+                stream: s,
+                from: row.first.place,
+            };
+            join_chain(open, row.first.ods.object_id, &mut scratch[at..end]);
             at = end;
         }
     }

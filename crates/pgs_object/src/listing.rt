@@ -1,79 +1,118 @@
 // Testing the chains of a set and listing its objects (01, module 7), from the rows that finding the chains left.
-ghost use Rattle.std.specs.Prelude.{◌≡◌, ◌≤◌, ◌<◌, ◌^◌, length};
-ghost use Rattle.pgs_base.specs.Outcome.{accepted, outcome, outcome_of, laid};
+ghost use Rattle.std.specs.Prelude.{◌≡◌, ◌≤◌, ◌<◌, ◌^◌, map, length, sum_by};
+ghost use Rattle.pgs_base.specs.Outcome.{accepted, laid, verdict_of};
+ghost use Rattle.pgs_reassembly.specs.Reassembly.{row_of};
+ghost use Rattle.pgs_reassembly.specs.declared.ObjectRecord.{ObjectRecord};
 ghost use Rattle.pgs_reassembly.specs.Tables.{
   total,
   rows_verdict,
   copied_in,
-  joined_in,
-  place_in,
-  record_row,
+  record_at,
   records_from,
 };
 
+use pgs_base::dimensions::Dimensions;
 use pgs_base::refusal::Refusal;
-use pgs_reassembly::ChainRow;
+use pgs_reassembly::{ChainRow, ObjectRecord};
 
-// How many bytes of the scratch the object of a row takes.
-fn copied_length(row: ChainRow) -> usize
-    ensures { result ≡ copied_in row }
-{
-    if row.copied { row.len } else { 0 }
+// A record of an object in a caller's list.
+pub trait FromObject: Copy {
+    ghost from_object: { ObjectRecord → Self };
+
+    fn from_object(object: ObjectRecord) -> Self
+        ensures { result ≡ from_object object };
 }
 
-// Tests each object in first-seen order: how many bytes those that are copied take.
-pub(crate) fn check_chains(rows: &[ChainRow]) -> Result<usize, Refusal>
-    requires { total rows.now < 2 ^ 64 }
-    ensures { outcome result ≡ outcome_of (rows_verdict rows.now) (joined_in rows.now) }
+impl FromObject for ObjectRecord {
+    ghost from_object = { λ object. object };
+
+    fn from_object(object: ObjectRecord) -> ObjectRecord {
+        object
+    }
+}
+
+// As a row of cells: id, version, width, height, 1 for the scratch or 0 for the stream, place, length.
+impl FromObject for [u64; 7] {
+    ghost from_object = { row_of };
+
+    fn from_object(object: ObjectRecord) -> [u64; 7] {
+        [
+            u64::from(object.id),
+            u64::from(object.version),
+            u64::from(object.width),
+            u64::from(object.height),
+            u64::from(object.copied),
+            object.place as u64,
+            object.len as u64,
+        ]
+    }
+}
+
+// Tests each object in first-seen order.
+pub(crate) fn check_chains(rows: &[ChainRow]) -> Result<(), Refusal>
+    ensures { verdict_of result ≡ rows_verdict rows.now }
 {
-    let mut joined: usize = 0;
     for row in rows {
         if !row.closed {
             return Err(Refusal::UnterminatedObject);
         }
-        if row.declared < 4 {
+        let declared = row.first.ods.object_data_length as usize;
+        if declared < 4 {
             return Err(Refusal::DeclaredLengthTooSmall);
         }
-        if row.declared - 4 != row.len {
+        if declared - 4 != row.len {
             return Err(Refusal::DeclaredLengthMismatch);
         }
-        joined += copied_length(*row);
     }
-    Ok(joined)
+    Ok(())
 }
 
-// The place of a row's data: in the stream, or at `at` in the scratch where it is copied.
-fn data_place(row: ChainRow, at: usize) -> usize
-    ensures { result ≡ place_in at row }
+// How many bytes of the scratch the objects take, wherever they stand.
+pub(crate) fn joined_length(rows: &[ChainRow]) -> usize
+    requires { sum_by copied_in rows.now < 2 ^ 64 }
+    ensures { result ≡ sum_by copied_in rows.now }
 {
-    if row.copied { at } else { row.start }
+    rows.iter()
+        .map(|row| object_record(*row, 0).joined_len())
+        .sum()
 }
 
-// Stays a row of numbers: the C interface lends the list.
-fn object_record(row: ChainRow, at: usize) -> [u64; 7]
-    ensures { result ≡ record_row at row }
+// The record of a row's object, whose data, if it is copied, stands at place `at` of the scratch.
+fn object_record(row: ChainRow, at: usize) -> ObjectRecord
+    ensures { result ≡ record_at at row }
 {
-    let place = data_place(row, at);
-    [
-        row.id as u64,
-        row.version as u64,
-        row.width as u64,
-        row.height as u64,
-        u64::from(row.copied),
-        place as u64,
-        row.len as u64,
-    ]
+    let f = row.first;
+    // A first fragment has dimensions.
+    // Stays 0 by 0 and no `unwrap`: a row is a plain record, and the fact would be asked by this function, by both that call it, and by each
+    // law of the table that changes a row; `record_at` reads absent dimensions as 0 by 0 too, so that nothing has to be asked.
+    let size = f.ods.dimensions.unwrap_or(Dimensions {
+        width: 0,
+        height: 0,
+    });
+    ObjectRecord {
+        id: f.ods.object_id,
+        version: f.ods.object_version_number,
+        width: size.width,
+        height: size.height,
+        copied: row.copied,
+        place: if row.copied { at } else { f.start },
+        len: row.len,
+    }
 }
 
 // Stores a record for each row.
-pub(crate) fn list_objects(rows: &[ChainRow], objects: &mut [[u64; 7]])
+pub(crate) fn list_records<R: FromObject>(rows: &[ChainRow], objects: &mut [R])
     requires rows_bound { total rows.now < 2 ^ 64 }
     requires rows_in_bounds { length rows.now ≤ length objects.old }
-    ensures { objects.new ≡ laid accepted (records_from 0 rows.now) objects.old }
+    ensures { objects.new ≡ laid accepted (map R.from_object (records_from 0 rows.now)) objects.old }
 {
+    let mut left = rows.iter();
     let mut at: usize = 0;
-    for (i, row) in rows.iter().enumerate() {
-        objects[i] = object_record(*row, at);
-        at += copied_length(*row);
+    for object in &mut objects[..rows.len()] {
+        if let Some(row) = left.next() {
+            let record = object_record(*row, at);
+            *object = R::from_object(record);
+            at += record.joined_len();
+        }
     }
 }

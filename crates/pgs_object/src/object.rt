@@ -1,71 +1,41 @@
 // The objects of a display set (01, module 7).
-ghost use Rattle.std.specs.Prelude.{◌≡◌, length};
+ghost use Rattle.std.specs.Prelude.{◌≡◌, map, length};
 ghost use Rattle.pgs_base.specs.Outcome.{outcome, outcome_of, Delivered};
-ghost use Rattle.pgs_reassembly.specs.Objects.{all_objects_verdict, objects_of, objects_verdict, objects_verdict_within};
+ghost use Rattle.pgs_reassembly.specs.Objects.{all_objects_verdict, objects_of, objects_verdict};
 ghost use Rattle.pgs_set.specs.Sets.{set_count};
-ghost use Rattle.pgs_reassembly.specs.Reassembly.{object_rows, Reassembled};
+ghost use Rattle.pgs_reassembly.specs.Reassembly.{object_records, Reassembled};
 
+use crate::chain::ChainTable;
 use crate::finding::{check_each, find_objects};
-use crate::{joining, listing};
+use crate::joining::join_objects;
+pub use crate::listing::FromObject;
+use crate::listing::{joined_length, list_records};
 use pgs_base::refusal::Refusal;
-use pgs_reassembly::ChainRow;
-use pgs_set::set::group_display_sets;
+use pgs_set::display_sets::DisplaySets;
 
 // The most objects that a set may have.
-// Stays an array of this length in each call: nothing allocates, so that there is no `Vec`.
 pub const OBJECT_LIMIT: usize = 64;
-
-// Finds the objects, tests both needs, then lists and joins; the table's length is the limit.
-fn reassemble(
-    s: &[u8],
-    set: usize,
-    table: &mut [ChainRow],
-    scratch: &mut [u8],
-    objects: &mut [[u64; 7]],
-) -> Result<usize, Refusal>
-    ensures { Reassembled (objects_verdict_within (length table.old) set s.now) (objects_of set s.now) objects.old objects.new scratch.old scratch.new (outcome result) }
-{
-    let (n, need) = find_objects(s, set, table)?;
-    if objects.len() < n {
-        return Err(Refusal::BufferTooSmall);
-    }
-    if scratch.len() < need {
-        return Err(Refusal::BufferTooSmall);
-    }
-    listing::list_objects(&table[..n], objects);
-    joining::join_objects(s, &table[..n], scratch);
-    Ok(n)
-}
-
-// The same without joining.
-fn listed(
-    s: &[u8],
-    set: usize,
-    table: &mut [ChainRow],
-    objects: &mut [[u64; 7]],
-) -> Result<usize, Refusal>
-    ensures { Delivered (objects_verdict_within (length table.old) set s.now) (length (objects_of set s.now)) (object_rows (objects_of set s.now)) objects.old objects.new (outcome result) }
-{
-    let (count, _) = find_objects(s, set, table)?;
-    if objects.len() < count {
-        return Err(Refusal::BufferTooSmall);
-    }
-    listing::list_objects(&table[..count], objects);
-    Ok(count)
-}
 
 // Reassembles the objects of set number `set`: a record for each fills `objects`, from the front, and the chains of several fragments
 // are joined in the scratch, from its start.
-pub fn reassemble_objects(
+pub fn reassemble_objects<R: FromObject>(
     s: &[u8],
     set: usize,
     scratch: &mut [u8],
-    objects: &mut [[u64; 7]],
+    objects: &mut [R],
 ) -> Result<usize, Refusal>
-    ensures { Reassembled (objects_verdict set s.now) (objects_of set s.now) objects.old objects.new scratch.old scratch.new (outcome result) }
+    ensures { Reassembled R.from_object (objects_verdict set s.now) (objects_of set s.now)
+        objects.old objects.new scratch.old scratch.new (outcome result) }
 {
-    let mut table = [ChainRow::default(); OBJECT_LIMIT];
-    reassemble(s, set, &mut table, scratch, objects)
+    let mut table = ChainTable::new();
+    find_objects(s, set, objects.len(), &mut table)?;
+    let rows = table.chains();
+    if scratch.len() < joined_length(rows) {
+        return Err(Refusal::BufferTooSmall);
+    }
+    list_records(rows, objects);
+    join_objects(s, rows, scratch);
+    Ok(rows.len())
 }
 
 // Whether the objects of every set reassemble: how many sets there are, or the stream's refusal, or that of the first set that is
@@ -73,15 +43,24 @@ pub fn reassemble_objects(
 pub fn check_objects(s: &[u8]) -> Result<usize, Refusal>
     ensures { outcome result ≡ outcome_of (all_objects_verdict s.now) (set_count s.now) }
 {
-    let n = group_display_sets(s)?;
-    let mut table = [ChainRow::default(); OBJECT_LIMIT];
-    check_each(s, n, &mut table)
+    let sets = DisplaySets::read(s)?;
+    let mut table = ChainTable::new();
+    check_each(sets, &mut table)?;
+    Ok(sets.count)
 }
 
 // Lists the objects of set number `set` without joining them: the records are those of `reassemble_objects`.
-pub fn list_objects(s: &[u8], set: usize, objects: &mut [[u64; 7]]) -> Result<usize, Refusal>
-    ensures { Delivered (objects_verdict set s.now) (length (objects_of set s.now)) (object_rows (objects_of set s.now)) objects.old objects.new (outcome result) }
+pub fn list_objects<R: FromObject>(
+    s: &[u8],
+    set: usize,
+    objects: &mut [R],
+) -> Result<usize, Refusal>
+    ensures { Delivered (objects_verdict set s.now) (length (objects_of set s.now)) (map R.from_object (object_records (objects_of set s.now)))
+        objects.old objects.new (outcome result) }
 {
-    let mut table = [ChainRow::default(); OBJECT_LIMIT];
-    listed(s, set, &mut table, objects)
+    let mut table = ChainTable::new();
+    find_objects(s, set, objects.len(), &mut table)?;
+    let rows = table.chains();
+    list_records(rows, objects);
+    Ok(rows.len())
 }

@@ -6,7 +6,7 @@ use Rattle.pgs_base.specs.Bytes.{num}
 use Rattle.pgs_views.specs.Fragments.{fragment_of, is_first}
 use Rattle.pgs_base.specs.Outcome.{Verdict, and_then, unless, pick}
 use Rattle.pgs_records.specs.declared.BodyList.{BodyList}
-use Rattle.pgs_ods.specs.declared.ods.Dimensions.{Dimensions}
+use Rattle.pgs_base.specs.declared.dimensions.Dimensions.{Dimensions}
 use Rattle.pgs_ods.specs.declared.ods.Ods.{Ods}
 
 -- the fragment flag of a body

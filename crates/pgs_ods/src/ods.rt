@@ -9,23 +9,18 @@ ghost use Rattle.pgs_ods.specs.OdsBody.{
   ods_list,
 };
 
+use pgs_base::dimensions::Dimensions;
 use pgs_base::refusal::Refusal;
 use pgs_fields::{u8_at, u16_at, u24_at};
 use pgs_records::BodyList;
 use pgs_views::fragment_flag::FragmentFlag;
 
-// The width and the height of an object.
-#[derive(Clone, Copy)]
-pub struct Dimensions {
-    pub width: u16,
-    pub height: u16,
-}
-
 // The numbers of an ODS; its data stands in the body.
-#[derive(Clone, Copy)]
+#[derive(Clone, Copy, Debug, Default, PartialEq, Eq)]
 pub struct Ods {
     pub object_id: u16,
     pub object_version_number: u8,
+    // Stays a byte beside `dimensions`: any byte may stand there, and it is kept (01)
     pub last_in_sequence_flag: u8,
     pub object_data_length: u32,
     // only a first fragment has them
@@ -37,9 +32,9 @@ fn head_size(flag: u8) -> usize
     ensures { result ≡ head_size flag }
 {
     if FragmentFlag::from(flag).is_first() {
-        11
+        Ods::FIRST_SIZE
     } else {
-        7
+        Ods::SIZE
     }
 }
 
@@ -47,7 +42,7 @@ fn head_size(flag: u8) -> usize
 pub fn check_ods(body: &[u8]) -> Result<BodyList, Refusal>
     ensures { outcome result ≡ outcome_of (ods_verdict body.now) (ods_list body.now) }
 {
-    if body.len() < 7 {
+    if body.len() < Ods::SIZE {
         return Err(Refusal::FieldPastEnd);
     }
     let start = head_size(u8_at(body, 3));
@@ -62,6 +57,12 @@ pub fn check_ods(body: &[u8]) -> Result<BodyList, Refusal>
 }
 
 impl Ods {
+    // How many bytes stand before the data.
+    pub const SIZE: usize = 7;
+
+    // How many of a first fragment, which has the dimensions.
+    pub const FIRST_SIZE: usize = 11;
+
     // The dimensions, by the fragment flag.
     fn dimensions(body: &[u8]) -> Option<Dimensions>
         ensures { result ≡ dimensions_of body.now }

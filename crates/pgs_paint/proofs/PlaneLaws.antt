@@ -10,7 +10,7 @@ use lib.ListN.{length, take, drop, get_or, length-append, length-drop, take-appe
 use lib.Seq.{drop-drop, take-take, take_all, take-append-le, drop-append-le, take-append-add, drop-append-add, length-take-le, get_or-take, get_or-drop}
 use lib.Dec.{ltb}
 use borrow.Author.Tests.{ltb-true, ltb-false}
-use borrow.Rule.Slice.PartMut.{mid_of, put_mid, mid_len}
+use borrow.Rule.Slice.PartMut.{mid_of, put_mid}
 use Rattle.pgs_plane.specs.Strips.{strip, pieces}
 use Rattle.pgs_plane.specs.Placing.{Image, image_of, index_at, table_color}
 use Rattle.pgs_plane.specs.Pictures.{Layer, color_over, row_painted, painted}
@@ -166,20 +166,6 @@ room {s} {iw} {ih} {w} {h} {j} b some more =
       source = omega (arith, row_inside iw ih (s.from_y + j) (s.from_x + s.columns) (omega (arith, r.0)) c.0);
       target = omega (arith, row_inside (4 * w) h (s.y + j) (4 * s.x + 4 * s.columns) (omega (arith, r.1)) (omega (arith, c.1)));
     }
-
--- the part of the plane that is lent for it has four bytes for each index that is lent
-pub row_room : (now bitmap : List ℕ) {s : Shown} {iw ih w h j : ℕ} → Room s iw ih w h j → iw * ih ≤ length bitmap → 4 * w * h ≤ length now
-    → length (mid_of (4 * w * (s.y + j) + 4 * s.x) (4 * w * (s.y + j) + 4 * s.x + 4 * s.columns - (4 * w * (s.y + j) + 4 * s.x)) now)
-    ≡ 4 * length (mid_of (iw * (s.from_y + j) + s.from_x) (iw * (s.from_y + j) + s.from_x + s.columns - (iw * (s.from_y + j) + s.from_x)) bitmap)
-row_room now bitmap {s} {iw} {ih} {w} {h} {j} r here there =
-    let to = 4 * w * (s.y + j) + 4 * s.x in
-    let from = iw * (s.from_y + j) + s.from_x in
-    mid_len to (to + 4 * s.columns) now (omega (arith, r.target))
-    ∙ numbers to from s.columns
-    ∙ ap (λ (n : ℕ). 4 * n) (sym (mid_len from (from + s.columns) bitmap (omega (arith, r.source))))
-  where
-    numbers : (a b c : ℕ) → a + 4 * c - a ≡ 4 * (b + c - b)
-    numbers a b c = omega arith
 
 module _ (t bitmap l now new : List ℕ) (s : Shown) (iw ih w h j : ℕ) (r : Room s iw ih w h j) where
   abbrev from : ℕ

@@ -1,9 +1,9 @@
 -- The colours of a row of indices, stored a pixel a turn. Assumes nothing.
 use mathlib.Core.Path.{◌≡◌, refl, sym, ap, ◌∙◌}
-use mathlib.Core.List.{List, ◌++◌, append-nil}
+use mathlib.Core.List.{List, ◌++◌}
 use Prim.Native.Nat.{ℕ, ◌+◌, ◌*◌, ◌-◌, ◌≤◌}
 use native.Mathlib.Omega.{arith}
-use lib.ListN.{length, get_or, take, drop, set, length-append, length-drop, drop_of_length-le}
+use lib.ListN.{length, get_or, take, drop, set, length-append, length-drop}
 use lib.Seq.{sets-eq, take_at, drop-append-add, drop-drop}
 use Rattle.pgs_palette.specs.Table.{pixel_of, pixel_at}
 use Rattle.pgs_palette.specs.declared.palette.Rgba8.{Rgba8}
@@ -39,12 +39,3 @@ module _ (t pixels start row : List ℕ) (i : ℕ) (same : length row ≡ length
     where
       next : 4 * i + 4 ≡ 4 * (i + 1)
       next = omega arith
-
-  -- all pixels
-  pub row-stored : i ≤ length pixels → length pixels ≤ i → length start ≡ 4 * length pixels → row ≡ strip (colors t pixels) 0 (length pixels)
-  row-stored low high size =
-      let all : i ≡ length pixels = omega arith in
-      is
-      ∙ ap (λ (l : List ℕ). strip (colors t pixels) 0 i ++ l) (drop_of_length-le start {i = 4 * i} (omega arith))
-      ∙ append-nil (strip (colors t pixels) 0 i)
-      ∙ ap (λ (n : ℕ). strip (colors t pixels) 0 n) all

@@ -1,36 +1,26 @@
 // One placement painted onto a plane of pixels, R, G, B and alpha, row by row.
-ghost use Rattle.std.specs.Prelude.{◌≡◌, List, ℕ, ◌*◌, length, get_or};
+ghost use Rattle.std.specs.Prelude.{◌≡◌, ◌+◌, ◌*◌, ◌<◌, length, get_or};
 ghost use Rattle.pgs_base.specs.Outcome.{verdict_of};
 ghost use Rattle.pgs_plane.specs.Strips.{strip};
-ghost use Rattle.pgs_plane.specs.Placing.{image_of, part_of, index_shown, table_color};
-ghost use Rattle.pgs_plane.specs.Pictures.{Layer, painted};
+ghost use Rattle.pgs_plane.specs.Placing.{image_of, part_of, table_color};
 ghost use Rattle.pgs_plane.specs.Calls.{Paints};
-ghost use Rattle.pgs_paint.specs.Clipping.{Visible, Bounds, Paintable, Exactly};
+ghost use Rattle.pgs_paint.specs.Clipping.{Visible, Bounds, Clipped, Paintable, RowsPainted};
 
+use pgs_base::dimensions::Dimensions;
 use pgs_base::refusal::Refusal;
 use pgs_palette::palette::Table;
 use pgs_pcs::pcs::{CompositionObject, CompositionObjectCrop};
-use pgs_plane::plane::PlaneSize;
+use pgs_plane::plane::plane_bytes;
 
 // An object's bitmap: palette indices, row by row.
 #[derive(Clone, Copy, Debug)]
 pub struct Image<'a> {
-    pub width: u16,
-    pub height: u16,
+    pub size: Dimensions,
     pub indices: &'a [u8],
 }
 
-impl Image<'_> {
-    // How many indices its rows need.
-    fn area(self) -> usize
-        ensures { result ≡ self.entry.width * self.entry.height }
-    {
-        usize::from(self.width) * usize::from(self.height)
-    }
-}
-
 // One axis of a placement: where its part begins on the plane and in the object, and how long the part, the object and the plane are.
-#[derive(Clone, Copy)]
+#[derive(Clone, Copy, Debug, PartialEq, Eq)]
 struct Axis {
     at: u16,
     from: u16,
@@ -51,7 +41,7 @@ impl Axis {
 }
 
 // The pixels of a placement that are on the plane: where they begin there and in the object, and how many columns and rows they have.
-#[derive(Clone, Copy)]
+#[derive(Clone, Copy, Debug, PartialEq, Eq)]
 struct Shown {
     x: u16,
     y: u16,
@@ -62,40 +52,36 @@ struct Shown {
 }
 
 // The part of an object that is used: the crop, or the whole object.
-fn part_of(
-    cropping: Option<CompositionObjectCrop>,
-    width: u16,
-    height: u16,
-) -> CompositionObjectCrop
-    ensures { result ≡ part_of cropping width height }
+fn part_of(cropping: Option<CompositionObjectCrop>, size: Dimensions) -> CompositionObjectCrop
+    ensures { result ≡ part_of cropping size.width size.height }
 {
     cropping.unwrap_or(CompositionObjectCrop {
         horizontal_position: 0,
         vertical_position: 0,
-        width,
-        height,
+        width: size.width,
+        height: size.height,
     })
 }
 
-// The pixels of a placement that are on the plane.
-fn clip(placement: CompositionObject, image: Image<'_>, size: PlaneSize) -> Shown
-    ensures bounds { Bounds result image.entry.width image.entry.height size.width size.height }
-    ensures by_index { (indices : List ℕ) → Exactly (index_shown placement (image_of image.entry.width image.entry.height indices)) result (image_of image.entry.width image.entry.height indices) size.width size.height }
+// The pixels of a placement of an object that are on the plane.
+fn clip(placement: CompositionObject, object: Dimensions, plane: Dimensions) -> Shown
+    ensures bounds { Bounds result object.width object.height plane.width plane.height }
+    ensures by_index { Clipped placement object plane result }
 {
-    let part = part_of(placement.cropping, image.width, image.height);
+    let part = part_of(placement.cropping, object);
     let across = Axis {
         at: placement.object_horizontal_position,
         from: part.horizontal_position,
         count: part.width,
-        size: image.width,
-        limit: size.width,
+        size: object.width,
+        limit: plane.width,
     };
     let down = Axis {
         at: placement.object_vertical_position,
         from: part.vertical_position,
         count: part.height,
-        size: image.height,
-        limit: size.height,
+        size: object.height,
+        limit: plane.height,
     };
     Shown {
         x: across.at,
@@ -123,15 +109,24 @@ fn paint_row(pixels: &[u8], table: Table<'_>, row: &mut [u8])
     }
 }
 
-// Paints the pixels of a placement that are on the plane, a row at a time.
-fn paint_rows(shown: Shown, image: Image<'_>, table: Table<'_>, size: PlaneSize, plane: &mut [u8])
-    requires { Paintable shown image.width image.height image.indices.now size.width size.height plane.old }
-    ensures { (layer : Layer) → Exactly layer shown (image_of image.entry.width image.entry.height image.entry.indices.now) size.width size.height → plane.new ≡ painted (table_color table.entry.bytes.now) layer size.width size.height plane.old }
+// The place of a pixel in rows of this width: in column x of the row that is j below row y.
+fn place(width: u16, x: u16, y: u16, j: usize) -> usize
+    requires { j < 65536 }
+    ensures { result ≡ width * (y + j) + x }
 {
-    let columns = shown.columns as usize;
-    for j in 0..shown.rows as usize {
-        let from = image.width as usize * (shown.from_y as usize + j) + shown.from_x as usize;
-        let to = 4 * size.width as usize * (shown.y as usize + j) + 4 * shown.x as usize;
+    usize::from(width) * (usize::from(y) + j) + usize::from(x)
+}
+
+// Paints the pixels of a placement that are on the plane, a row at a time.
+// Stays by index, as `paint_row`.
+fn paint_rows(shown: Shown, image: Image<'_>, table: Table<'_>, size: Dimensions, plane: &mut [u8])
+    requires { Paintable shown image.size image.indices.now size plane.old }
+    ensures { RowsPainted shown image.entry.size image.entry.indices.now table.entry.bytes.now size plane.old plane.new }
+{
+    let columns = usize::from(shown.columns);
+    for j in 0..usize::from(shown.rows) {
+        let from = place(image.size.width, shown.from_x, shown.from_y, j);
+        let to = 4 * place(size.width, shown.x, shown.y, j);
         paint_row(
             &image.indices[from..from + columns],
             table,
@@ -145,23 +140,21 @@ pub fn paint_placement(
     placement: CompositionObject,
     image: Image<'_>,
     table: &[u8],
-    size: PlaneSize,
+    size: Dimensions,
     plane: &mut [u8],
 ) -> Result<(), Refusal>
-    ensures { Paints placement (image_of image.entry.width image.entry.height image.entry.indices.now) table.now size.width size.height plane.old (verdict_of result) plane.new }
+    ensures { Paints placement (image_of image.entry.size.width image.entry.size.height image.entry.indices.now) table.now
+        size.width size.height plane.old (verdict_of result) plane.new }
 {
     let table = Table::new(table)?;
-    if plane.len() < size.bytes() {
+    if plane.len() < plane_bytes(size) {
         return Err(Refusal::BufferTooSmall);
     }
-    if image.indices.len() < image.area() {
+    if image.indices.len() < image.size.area() {
         return Err(Refusal::BufferTooSmall);
     }
-    let shown = clip(placement, image, size);
-    if shown.columns == 0 {
-        return Ok(());
-    }
-    if shown.rows == 0 {
+    let shown = clip(placement, image.size, size);
+    if shown.columns == 0 || shown.rows == 0 {
         return Ok(());
     }
     paint_rows(shown, image, table, size, plane);

@@ -54,7 +54,8 @@ impl<'a> Table<'a> {
 }
 
 // The colour of an entry, a record of id, Y, Cr, Cb and alpha. Unlike the Rust's, it takes Cb for Cb and Cr for Cr.
-// Stays `to_rgba`, as the Rust names it: `Rgba8::from(entry)` of five bytes would not say that they are an entry.
+// Stays `to_rgba`, as the Rust names it: here an entry is a row of the C interface, five bytes, and `Rgba8::from` of five bytes would not say
+// that they are one.
 pub fn to_rgba(entry: [u8; 5]) -> Rgba8
     ensures { result ≡ color_of rgb_of (entry_of entry) }
 {

@@ -1,1 +1,2 @@
 pub mod PcsBody
+pub mod Placements

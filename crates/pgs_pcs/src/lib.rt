@@ -2,3 +2,4 @@
 #![tactic(auto)]
 
 pub mod pcs;
+pub mod placements;

@@ -16,10 +16,10 @@ ghost use Rattle.pgs_pcs.specs.PcsBody.{
 use pgs_base::refusal::Refusal;
 use pgs_fields::{u8_at, u16_at};
 use pgs_records::BodyList;
-use pgs_records::list::{ListRecord, read_list};
+use pgs_records::list::{ListRecord, check_counted, read_counted};
 
 // The part of an object that a placement shows.
-#[derive(Clone, Copy)]
+#[derive(Clone, Copy, Debug, PartialEq, Eq)]
 pub struct CompositionObjectCrop {
     pub horizontal_position: u16,
     pub vertical_position: u16,
@@ -28,10 +28,11 @@ pub struct CompositionObjectCrop {
 }
 
 // One placement: an object at a position on the plane.
-#[derive(Clone, Copy)]
+#[derive(Clone, Copy, Debug, PartialEq, Eq)]
 pub struct CompositionObject {
     pub object_id: u16,
     pub window_id: u8,
+    // Stays beside `cropping`: without a crop any byte but 40 may stand there, and it is kept (01)
     pub object_cropped_flag: u8,
     pub object_horizontal_position: u16,
     pub object_vertical_position: u16,
@@ -40,7 +41,7 @@ pub struct CompositionObject {
 }
 
 // The numbers of a PCS; its placements stand in a list.
-#[derive(Clone, Copy)]
+#[derive(Clone, Copy, Debug, PartialEq, Eq)]
 pub struct Pcs {
     pub width: u16,
     pub height: u16,
@@ -54,6 +55,12 @@ pub struct Pcs {
 impl CompositionObject {
     // The flag at which a crop follows.
     pub const CROPPED_FLAG: u8 = 0x40;
+
+    // How many bytes a placement takes.
+    pub const SIZE: usize = 8;
+
+    // How many with a crop.
+    pub const CROPPED_SIZE: usize = 16;
 
     // The crop of the placement at the front of `l`.
     fn cropping(l: &[u8]) -> Option<CompositionObjectCrop>
@@ -83,9 +90,9 @@ impl ListRecord for CompositionObject {
 
     fn size(l: &[u8]) -> usize {
         if u8_at(l, 3) == CompositionObject::CROPPED_FLAG {
-            16
+            CompositionObject::CROPPED_SIZE
         } else {
-            8
+            CompositionObject::SIZE
         }
     }
 
@@ -103,8 +110,8 @@ impl ListRecord for CompositionObject {
     // Object id, window id, crop flag, x, y, crop present (0 or 1), crop x, y, width, height.
     fn to_row(self) -> [u16; 10] {
         let id = self.object_id;
-        let window = self.window_id as u16;
-        let flag = self.object_cropped_flag as u16;
+        let window = u16::from(self.window_id);
+        let flag = u16::from(self.object_cropped_flag);
         let x = self.object_horizontal_position;
         let y = self.object_vertical_position;
         let cropping = self.cropping;
@@ -130,21 +137,15 @@ impl ListRecord for CompositionObject {
 pub fn check_pcs(body: &[u8]) -> Result<BodyList, Refusal>
     ensures { outcome result ≡ outcome_of (pcs_verdict body.now) (pcs_list body.now) }
 {
-    if body.len() < Pcs::SIZE {
-        return Err(Refusal::FieldPastEnd);
-    }
-    let count = u8_at(body, 10) as usize;
-    let len = CompositionObject::walk(&body[Pcs::SIZE..], count)?;
-    Ok(BodyList {
-        count,
-        start: Pcs::SIZE,
-        len,
-    })
+    check_counted::<CompositionObject>(body, Pcs::COUNT_AT)
 }
 
 impl Pcs {
-    // How many bytes the numbers and the count of placements take.
-    const SIZE: usize = 11;
+    // Where the count of placements stands, behind the numbers.
+    pub(crate) const COUNT_AT: usize = 10;
+
+    // How many bytes the numbers and the count take.
+    pub(crate) const SIZE: usize = 11;
 
     // The numbers at their places, also of a body that is cut short.
     pub fn numbers(body: &[u8]) -> Pcs
@@ -165,11 +166,7 @@ impl Pcs {
     pub fn parse(body: &[u8], placements: &mut [[u16; 10]]) -> Result<(Pcs, usize), Refusal>
         ensures { Delivered (pcs_verdict body.now) (pcs_of body.now, placement_count body.now) (placement_rows body.now) placements.old placements.new (outcome result) }
     {
-        if body.len() < Pcs::SIZE {
-            return Err(Refusal::FieldPastEnd);
-        }
-        let count = u8_at(body, 10) as usize;
-        let n = read_list::<CompositionObject>(&body[Pcs::SIZE..], count, placements)?;
+        let n = read_counted::<CompositionObject>(body, Pcs::COUNT_AT, placements)?;
         Ok((Pcs::numbers(body), n))
     }
 }

@@ -13,7 +13,7 @@ use Rattle.pgs_base.proofs.Outcomes.{gave, gave-value, first_holds}
 use Rattle.pgs_records.specs.declared.BodyList.{BodyList}
 use Rattle.pgs_records.specs.Records.{records, records_fit}
 use Rattle.pgs_pds.specs.PdsBody.{entry_of, entry_row, entry_rows, entry_size, entry_count, pds_verdict, pds_list}
-use Rattle.pgs_records.proofs.RecordLaws.{fit-fixed, rows-length}
+use Rattle.pgs_records.proofs.RecordLaws.{fit-fixed}
 
 module _ (b : List ℕ) where
   pub short-numbers : length b < 2 → refuses 4 ≡ outcome_of (pds_verdict b) (pds_list b)
@@ -32,10 +32,6 @@ module _ (b : List ℕ) where
 
   pub has-entries : records_fit entry_size (entry_count b) (drop 2 b) ≡ true
   has-entries = fit-fixed 5 (entry_count b) (drop 2 b) ∙ le-leb (5 * entry_count b) (length (drop 2 b)) (rw length-drop (omega arith))
-
-  pub entry-rows : length (entry_rows b) ≡ entry_count b
-  unfolding entry_rows
-  entry-rows = rows-length entry_row entry_of entry_size (entry_count b) (drop 2 b)
 
   -- what follows the numbers
   abbrev after_numbers : List ℕ

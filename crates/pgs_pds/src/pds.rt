@@ -18,7 +18,7 @@ use pgs_records::BodyList;
 use pgs_records::list::{ListRecord, read_list, walk_fixed};
 
 // One entry of a palette: YCbCr with alpha.
-#[derive(Clone, Copy)]
+#[derive(Clone, Copy, Debug, PartialEq, Eq)]
 pub struct PaletteEntry {
     pub palette_entry_id: u8,
     pub y: u8,
@@ -28,10 +28,15 @@ pub struct PaletteEntry {
 }
 
 // The numbers of a PDS; its entries stand in a list.
-#[derive(Clone, Copy)]
+#[derive(Clone, Copy, Debug, PartialEq, Eq)]
 pub struct Pds {
     pub palette_id: u8,
     pub palette_version_number: u8,
+}
+
+impl PaletteEntry {
+    // How many bytes an entry takes.
+    pub const SIZE: usize = 5;
 }
 
 impl ListRecord for PaletteEntry {
@@ -44,7 +49,7 @@ impl ListRecord for PaletteEntry {
     ghost to_row = { entry_row };
 
     fn size(_: &[u8]) -> usize {
-        5
+        PaletteEntry::SIZE
     }
 
     fn read(l: &[u8]) -> PaletteEntry {
@@ -63,7 +68,7 @@ impl ListRecord for PaletteEntry {
     }
 
     fn walk(l: &[u8], n: usize) -> Result<usize, Refusal> {
-        walk_fixed(Self::size(l), l, n)
+        walk_fixed(PaletteEntry::SIZE, l, n)
     }
 }
 
@@ -71,21 +76,24 @@ impl ListRecord for PaletteEntry {
 pub fn check_pds(body: &[u8]) -> Result<BodyList, Refusal>
     ensures { outcome result ≡ outcome_of (pds_verdict body.now) (pds_list body.now) }
 {
-    if body.len() < 2 {
+    if body.len() < Pds::SIZE {
         return Err(Refusal::FieldPastEnd);
     }
-    let len = body.len() - 2;
-    if len % 5 != 0 {
+    let len = body.len() - Pds::SIZE;
+    if len % PaletteEntry::SIZE != 0 {
         return Err(Refusal::PartialPaletteEntry);
     }
     Ok(BodyList {
-        count: len / 5,
-        start: 2,
+        count: len / PaletteEntry::SIZE,
+        start: Pds::SIZE,
         len,
     })
 }
 
 impl Pds {
+    // How many bytes the numbers take.
+    const SIZE: usize = 2;
+
     // The numbers at their places, also of a body that is cut short.
     pub fn numbers(body: &[u8]) -> Pds
         ensures { result ≡ pds_of body.now }
@@ -101,7 +109,7 @@ impl Pds {
         ensures { Delivered (pds_verdict body.now) (pds_of body.now, entry_count body.now) (entry_rows body.now) entries.old entries.new (outcome result) }
     {
         let list = check_pds(body)?;
-        let n = read_list::<PaletteEntry>(&body[2..], list.count, entries)?;
+        let n = read_list::<PaletteEntry>(&body[Pds::SIZE..], list.count, entries)?;
         Ok((Pds::numbers(body), n))
     }
 }

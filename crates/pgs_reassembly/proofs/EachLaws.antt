@@ -1,97 +1,82 @@
--- The loop that tests the objects of each set. Assumes nothing.
+-- The walk that tests the objects of each set. Assumes nothing.
 use mathlib.Core.Path.{◌≡◌, refl, sym, ap, ◌∙◌}
-use mathlib.Core.List.{List, [], ◌∷◌}
-use Prim.Native.Nat.{ℕ, ◌+◌, ◌≤◌, ◌<◌}
-use native.Mathlib.Numerals.{add-one}
-use native.Mathlib.Omega.{arith}
-use lib.ListN.{length, drop, length-drop}
-use lib.Seq.{drop-cons}
-use Rattle.pgs_base.specs.Outcome.{Verdict, accepted, Outcome, gives, refuses, outcome_of, and_then}
-use Rattle.pgs_base.proofs.Outcomes.{gave, gave-value, turned_down, gives_as, refuses-as}
-use Rattle.pgs_segment.specs.Header.{header_fields}
-use Rattle.pgs_stream.specs.Stream.{step_verdict}
-use Rattle.pgs_segment.specs.declared.header.SegmentHeader.{SegmentHeader}
-use Rattle.pgs_reassembly.proofs.ObjectLaws.{set-fragments}
-use Rattle.pgs_set.proofs.SetLaws.{Finding, finding, finds-more, finds-on, found-set, opens-read, ends_read, outside-here, read-within}
+use mathlib.Core.List.{List, [], ◌∷◌, map}
+use Prim.Native.Nat.{ℕ, ◌+◌}
+use lib.ListN.{drop}
+use Rattle.pgs_base.specs.Outcome.{Verdict, accepted, refused, gives, refuses, outcome_of, and_then}
+use Rattle.pgs_base.proofs.Outcomes.{gives_as, refuses-as}
+use Rattle.pgs_segment.specs.OneSegment.{used_by}
+use Rattle.pgs_reassembly.proofs.ObjectLaws.{begin-fragments}
 use Rattle.pgs_reassembly.specs.Objects.{Chain, fragments_verdict, object_limit, each_verdict, all_objects_verdict}
-use Rattle.pgs_set.specs.Sets.{no_set, DisplaySet, sets_of, set_count, sets_verdict}
-use Rattle.pgs_reassembly.specs.Tables.{Gathered, fragments_left}
-use Rattle.pgs_set.specs.Walks.{InSet, Ends}
+use Rattle.pgs_reassembly.specs.Tables.{Found, fragments_left}
 use Rattle.pgs_reassembly.specs.declared.ChainRow.{ChainRow}
+use Rattle.pgs_set.proofs.RecordLaws.{AllBegin, records-begin, begins-at, by-sets, stream-stands}
+use Rattle.pgs_set.specs.Records.{set_records}
+use Rattle.pgs_set.specs.Sets.{DisplaySet, set_record, sets_from, sets_of, set_count, sets_verdict}
+use Rattle.pgs_set.specs.Walks.{pieces_at, Ends, SetBegins, set_at}
+use Rattle.pgs_set.specs.declared.set.SetRecord.{SetRecord}
 
--- i of n sets are accepted, and the next one, if there is one, begins at `at`
-pub record Testing (s : List ℕ) (n : ℕ) (start table : List ChainRow) (i at : ℕ) : Type 0 where
-  pub finding : Finding s i at
-  pub few : i ≤ n
-  pub same : length table ≡ length start
-  pub verdict : each_verdict (length start) (drop i (sets_of s)) ≡ each_verdict (length start) (sets_of s)
+-- the objects of the sets with these records
+abbrev pub records_verdict : List ℕ → List SetRecord → Verdict
+records_verdict s [] = accepted
+records_verdict s (x ∷ xs) =
+    and_then (fragments_verdict object_limit (fragments_left s (x.place + used_by (drop x.place s)))) (records_verdict s xs)
 
-module _ (s : List ℕ) (n : ℕ) (all : n ≡ set_count s) where
-  pub testing : (start : List ChainRow) → sets_verdict s ≡ accepted → Testing s n start start 0 0
-  testing start e = record { finding = finding s e; few = omega arith; same = refl; verdict = refl }
+-- what is left decides as the whole does
+pub record Testing (s : List ℕ) (left : List SetRecord) : Type 0 where
+  pub begin : AllBegin s left
+  pub verdict : records_verdict s left ≡ each_verdict object_limit (sets_of s)
 
-  module _ {start table : List ChainRow} {i at : ℕ} (c : Testing s n start table i at) where
-    pub tests-all : n ≤ i → gives n ≡ outcome_of (each_verdict (length start) (sets_of s)) n
-    tests-all h = gives_as (sym c.verdict ∙ none (drop i (sets_of s)) (omega (arith, length-drop i (sets_of s)))) refl
-      where
-        none : (ds : List DisplaySet) → length ds ≡ 0 → each_verdict (length start) ds ≡ accepted
-        none [] e = refl
-        none (d ∷ ds) e = absurd (omega arith)
+module _ (s : List ℕ) where
+  pub testing : sets_verdict s ≡ accepted → {left : List SetRecord} → left ≡ set_records s → Testing s left
+  unfolding sets_of
+  testing e q = rw q (record { begin = records-begin s e; verdict = by-sets s P refl more 0 (stream-stands s e) })
+    where
+      P : List DisplaySet → Type 0
+      P ds = records_verdict s (map set_record ds) ≡ each_verdict object_limit ds
 
-    module _ (m : i < n) where
-      more : i < set_count s
-      more = omega (arith, all)
+      more : (at r : ℕ) → SetBegins s at → Ends s (at + used_by (drop at s)) r → P (sets_from r (pieces_at s r)) → P (set_at s at ∷ sets_from r (pieces_at s r))
+      more at r b x on =
+          (λ j.
+          and_then (fragments_verdict object_limit (fragments_left s (begins-at s b j + used_by (drop (begins-at s b j) s)))) (on j))
+          ∙ ap (λ (v : Verdict). and_then v (each_verdict object_limit (sets_from r (pieces_at s r))))
+          (ap (fragments_verdict object_limit) (sym (begin-fragments s b)))
 
-      pub tests-here : step_verdict (drop at s) ≡ accepted
-      tests-here = outside-here s c.finding.standing (finds-more s c.finding more)
+  module _ {xs : List SetRecord} (c : Testing s xs) where
+    -- no set is left
+    pub tests-all : xs ≡ [] → accepted ≡ each_verdict object_limit (sets_of s)
+    tests-all e = ap (records_verdict s) (sym e) ∙ c.verdict
 
-      module _ {h : SegmentHeader} (e : h ≡ header_fields (drop at s)) where
-        pub tests-within : at + (13 + h.segment_size) ≤ length s
-        tests-within = read-within s at tests-here e
+    module _ {x : SetRecord} {left : List SetRecord} (here : xs ≡ x ∷ left) where
+      pub tests-begin : SetBegins s x.place
+      tests-begin = (rw here at c.begin).0
 
-        pub tests-open : InSet s (at + (13 + h.segment_size))
-        tests-open = opens-read s c.finding more e
+      module _ {t : List ℕ} {from : ℕ} (es : t ≡ s) (ef : from ≡ x.place + used_by (drop x.place s)) {cs : List Chain} {now : List ChainRow} {answer : Verdict}
+          (g : Found t (fragments_verdict object_limit (fragments_left t from)) cs now answer) where
+        decides : and_then answer (records_verdict s left) ≡ each_verdict object_limit (sets_of s)
+        decides =
+            ap (λ (v : Verdict). and_then v (records_verdict s left)) (g.answered ∙ (λ j. fragments_verdict object_limit (fragments_left (es j) (ef j))))
+            ∙ ap (records_verdict s) (sym here)
+            ∙ c.verdict
 
-        -- the verdict of this set, and of those after it
-        split : each_verdict (length start) (drop i (sets_of s))
-            ≡ and_then (fragments_verdict (length table) (fragments_left s (at + (13 + h.segment_size)))) (each_verdict (length start) (drop (i + 1) (sets_of s)))
-        split =
-            ap (each_verdict (length start)) (drop-cons (sets_of s) i no_set more)
-            ∙ (λ j. and_then (fragments_verdict (sym c.same j) (set-fragments s i (found-set s c.finding more) e j))
-            (each_verdict (length start) (drop (sym (add-one i) j) (sets_of s))))
+        pub tests-refusal : {k : ℕ} → answer ≡ refused k → refused k ≡ each_verdict object_limit (sets_of s)
+        tests-refusal q = ap (λ (v : Verdict). and_then v (records_verdict s left)) (sym q) ∙ decides
 
-        module _ {cs : List Chain} {table' : List ChainRow} {answer : Outcome (ℕ × ℕ)}
-            (g : Gathered s (fragments_verdict (length table) (fragments_left s (at + (13 + h.segment_size)))) cs table' answer) where
-          pub tests-refusal : {k : ℕ} → answer ≡ refuses k → refuses k ≡ outcome_of (each_verdict (length start) (sets_of s)) n
-          tests-refusal {k} q =
-              refuses-as n
-              (sym c.verdict
-              ∙ split
-              ∙ ap (λ (v : Verdict). and_then v (each_verdict (length start) (drop (i + 1) (sets_of s)))) (g.turned k q))
-
-          pub tests-on : {k need : ℕ} → answer ≡ gives (k, need) → {r : ℕ} → Ends s (at + (13 + h.segment_size)) r → length table' ≡ length table
-              → Testing s n start table' (i + 1) r
-          tests-on {k} {need} q {r} x l =
-              record {
-                finding = finds-on s c.finding more (ends_read s at e x);
-                few = omega arith;
-                same = l ∙ c.same;
-                verdict =
-                    sym
-                    (split
-                    ∙ ap (λ (v : Verdict). and_then v (each_verdict (length start) (drop (i + 1) (sets_of s)))) (g.found k need q).accepts)
-                    ∙ c.verdict;
-              }
+        pub tests-on : answer ≡ accepted → Testing s left
+        tests-on q =
+            record { begin = (rw here at c.begin).1; verdict = ap (λ (v : Verdict). and_then v (records_verdict s left)) (sym q) ∙ decides }
 
 -- the stream is refused, or its sets are tested
 module _ (s : List ℕ) where
-  pub sets-refused : {k : ℕ} → refuses k ≡ outcome_of (sets_verdict s) (set_count s) → refuses k ≡ outcome_of (all_objects_verdict s) (set_count s)
-  sets-refused e =
-      refuses-as (set_count s) (ap (λ (v : Verdict). and_then v (each_verdict object_limit (sets_of s))) (turned_down (sets_verdict s) (set_count s) e))
+  pub sets-refused : {k : ℕ} → sets_verdict s ≡ refused k → refuses k ≡ outcome_of (all_objects_verdict s) (set_count s)
+  sets-refused e = refuses-as (set_count s) (ap (λ (v : Verdict). and_then v (each_verdict object_limit (sets_of s))) e)
 
-  pub sets-tested : {n : ℕ} {o : Outcome ℕ} → gives n ≡ outcome_of (sets_verdict s) (set_count s) → o ≡ outcome_of (each_verdict object_limit (sets_of s)) n
-      → o ≡ outcome_of (all_objects_verdict s) (set_count s)
-  sets-tested e q =
-      q
-      ∙ (λ j. outcome_of (and_then (sym (gave (sets_verdict s) (set_count s) e) j) (each_verdict object_limit (sets_of s)))
-      (gave-value (sets_verdict s) (set_count s) e j))
+  module _ {t : List ℕ} (same : t ≡ s) (a : sets_verdict t ≡ accepted) where
+    tested : all_objects_verdict s ≡ each_verdict object_limit (sets_of t)
+    tested = ap all_objects_verdict (sym same) ∙ ap (λ (v : Verdict). and_then v (each_verdict object_limit (sets_of t))) a
+
+    pub each-refused : {k : ℕ} → refused k ≡ each_verdict object_limit (sets_of t) → refuses k ≡ outcome_of (all_objects_verdict s) (set_count s)
+    each-refused e = refuses-as (set_count s) (tested ∙ sym e)
+
+    pub each-tested : accepted ≡ each_verdict object_limit (sets_of t) → {n : ℕ} → n ≡ set_count t → gives n ≡ outcome_of (all_objects_verdict s) (set_count s)
+    each-tested e q = gives_as (tested ∙ sym e) (q ∙ ap set_count same)

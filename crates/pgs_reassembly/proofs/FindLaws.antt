@@ -1,156 +1,130 @@
--- The loop that finds the chains of a set. Assumes nothing.
+-- The walk that finds the chains of a set. Assumes nothing.
 use mathlib.Core.Path.{◌≡◌, refl, sym, ap, ◌∙◌}
-use mathlib.Core.Bool.{Bool, true, false}
-use mathlib.Core.List.{List, [], ◌∷◌, ◌++◌, append_assoc, append-nil}
+use mathlib.Core.Bool.{Bool, true}
+use mathlib.Core.List.{List, [], ◌∷◌, map}
 use Prim.Native.Nat.{ℕ, ◌+◌, ◌≤◌}
 use native.Mathlib.Omega.{arith}
-use lib.ListN.{length, take, drop}
-use Rattle.pgs_base.specs.Outcome.{Verdict, accepted, refused, gives, refuses, and_then}
-use Rattle.pgs_segment.specs.Header.{header_fields}
-use Rattle.pgs_views.specs.Kinds.{type_of}
+use lib.ListN.{length, drop, length-append}
+use Rattle.pgs_base.specs.Outcome.{Verdict, accepted, refused, and_then}
+use Rattle.pgs_base.proofs.Outcomes.{not-both}
 use Rattle.pgs_segment.specs.OneSegment.{segment_type, used_by}
 use Rattle.pgs_stream.specs.Stream.{step_verdict}
-use Rattle.pgs_segment.specs.declared.header.SegmentHeader.{SegmentHeader}
-use Rattle.pgs_views.specs.declared.segment_type.SegmentType.{SegmentType}
-use Rattle.pgs_reassembly.proofs.FragmentLaws.{none_left, left-same, left-next, bytes-within}
-use Rattle.pgs_set.proofs.SetLaws.{kind-read, size-read, inside-here, inside_on}
-use Rattle.pgs_set.proofs.WalkLaws.{within-here}
-use Rattle.pgs_reassembly.specs.Objects.{Fragment, is_ods, fragment_at, chains_of, fragment_verdict, verdict_after}
-use Rattle.pgs_set.specs.Sets.{is_end}
-use Rattle.pgs_reassembly.specs.Tables.{fragment_numbers, total, Holds, Grown, Took, FoundChains, fragments_left}
+use Rattle.pgs_set.proofs.Choices.{pick_first}
+use Rattle.pgs_set.proofs.SegmentLaws.{Stands, AllStand, segments-stand, stands-kind, stands-end}
+use Rattle.pgs_set.specs.Segments.{set_segments}
 use Rattle.pgs_set.specs.Walks.{InSet}
+use Rattle.pgs_stream.specs.declared.segments.PlacedSegment.{PlacedSegment}
+use Rattle.pgs_views.specs.Kinds.{type_of}
+use Rattle.pgs_views.specs.declared.segment_type.SegmentType.{SegmentType}
+use Rattle.pgs_reassembly.proofs.ChainLaws.{taking-all, rows-all, total-after}
+use Rattle.pgs_reassembly.proofs.FragmentLaws.{in-segments, bytes-left}
+use Rattle.pgs_reassembly.specs.Objects.{Fragment, is_ods, chains_of, joined, object_limit, verdict_after}
+use Rattle.pgs_reassembly.specs.Tables.{fragment_in, fragments_in, fragments_left, fragment_numbers, chain_row, take_verdict, rows_after}
+use Rattle.pgs_reassembly.specs.Tables.{taking_verdict, rows_with, total, Leaves}
 use Rattle.pgs_reassembly.specs.declared.ChainRow.{ChainRow}
 use Rattle.pgs_reassembly.specs.declared.FragmentNumbers.{FragmentNumbers}
 
--- the fragments before `at` are taken: their chains are the first n rows
-pub record Finding (s : List ℕ) (from room : ℕ) (table : List ChainRow) (at n : ℕ) : Type 0 where
-  pub in_set : InSet s at
-  pub same : length table ≡ room
-  pub earlier : List Fragment
-  pub split : earlier ++ fragments_left s at ≡ fragments_left s from
-  pub verdict : verdict_after room earlier (fragments_left s at) ≡ verdict_after room [] (fragments_left s from)
-  pub holds : Holds earlier table n
-  pub small : total (take n table) ≤ at
+-- an ODS that stands in the stream can be read
+module _ {s : List ℕ} {x : PlacedSegment} (st : Stands s x) where
+  pub its-step : step_verdict (drop x.at s) ≡ accepted
+  its-step = st.step
+
+  pub its-end : x.end ≡ x.at + used_by (drop x.at s)
+  its-end = stands-end st
+
+  pub its-ods : {t : SegmentType} {b : Bool} → t ≡ type_of x.header.segment_type → b ≡ is_ods t → b ≡ true → is_ods (segment_type (drop x.at s)) ≡ true
+  its-ods e q z = sym (ap is_ods (e ∙ stands-kind st)) ∙ sym q ∙ z
+
+-- whether a segment is one: the fragments in segments, by the first of them
+module _ (s : List ℕ) {x : PlacedSegment} {xs left : List PlacedSegment} (here : xs ≡ x ∷ left)
+    {t : SegmentType} {b : Bool} (e : t ≡ type_of x.header.segment_type) (q : b ≡ is_ods t) where
+  its-test : is_ods (type_of x.header.segment_type) ≡ b
+  its-test = sym (q ∙ ap is_ods e)
+
+  pub in-next : b ≡ true → fragments_in s xs ≡ fragment_in s x ∷ fragments_in s left
+  in-next z = ap (fragments_in s) here ∙ pick_first _ _ (its-test ∙ z)
+
+-- the fragments in the segments that are left go into these rows, as all go into none
+pub record Finding (s : List ℕ) (from : ℕ) (rows : List ChainRow) (left : List PlacedSegment) : Type 0 where
+  pub stand : AllStand s left
+  pub verdict : taking_verdict rows (fragments_in s left) ≡ taking_verdict [] (fragments_left s from)
+  pub whole : rows_with rows (fragments_in s left) ≡ rows_with [] (fragments_left s from)
+  pub small : total rows + length (joined (fragments_in s left)) ≤ length s
 
 module _ (s : List ℕ) (from : ℕ) where
-  pub finding : (table : List ChainRow) → InSet s from → Finding s from (length table) table from 0
-  finding table i =
-      record {
-        in_set = i;
-        same = refl;
-        earlier = [];
-        split = refl;
-        verdict = refl;
-        holds = record { within = omega arith; rows = refl; distinct = tt };
-        small = omega arith;
-      }
+  pub finding : InSet s from → {left : List PlacedSegment} → left ≡ set_segments s from → Finding s from [] left
+  finding i e =
+      rw e
+      (record {
+        stand = segments-stand s i;
+        verdict = ap (taking_verdict []) (sym (in-segments s i));
+        whole = ap (rows_with []) (sym (in-segments s i));
+        small = omega (arith, bytes-left s i, ap (λ (fs : List Fragment). length (joined fs)) (in-segments s i));
+      })
 
-  module _ {room : ℕ} {table : List ChainRow} {at n : ℕ} (c : Finding s from room table at n) where
-    pub finds-here : step_verdict (drop at s) ≡ accepted
-    finds-here = inside-here s c.in_set
+  module _ {rows : List ChainRow} {xs : List PlacedSegment} (c : Finding s from rows xs) where
+    -- no segment is left
+    pub finds-all : xs ≡ [] → Leaves (verdict_after object_limit [] (fragments_left s from)) (map chain_row (chains_of (fragments_left s from))) rows accepted
+    finds-all e =
+        let done : accepted ≡ verdict_after object_limit [] (fragments_left s from)
+        = ap (λ (l : List PlacedSegment). taking_verdict rows (fragments_in s l)) (sym e) ∙ c.verdict ∙ taking-all (fragments_left s from) in
+        record {
+          answered = done;
+          left = λ a.
+              ap (λ (l : List PlacedSegment). rows_with rows (fragments_in s l)) (sym e)
+              ∙ c.whole
+              ∙ rows-all (fragments_left s from) (sym done);
+        }
 
-    module _ {h : SegmentHeader} {t : SegmentType} {b : Bool} (e : h ≡ header_fields (drop at s)) (q : t ≡ type_of h.segment_type) (be : b ≡ is_end t) where
-      its-kind : t ≡ segment_type (drop at s)
-      its-kind = kind-read (drop at s) e q
+    module _ {x : PlacedSegment} {left : List PlacedSegment} (here : xs ≡ x ∷ left) where
+      pub its-stand : AllStand s (x ∷ left)
+      its-stand = rw here at c.stand
 
-      end_is : b ≡ is_end (segment_type (drop at s))
-      end_is = be ∙ ap is_end its-kind
-
-      -- at the END no fragment is left
-      pub found_all : b ≡ true → FoundChains (fragments_left s from) (length s) table (gives n)
-      found_all y =
-          record {
-            turned = λ k z. absurd (let w : ◌≡◌ {A = ℕ} 0 1 = cc in omega arith);
-            accepts = λ m z. ap (λ (r : ℕ). verdict_after r [] (fragments_left s from)) c.same ∙ sym c.verdict ∙ ap (verdict_after room c.earlier) none;
-            holds = λ m z. let r : n ≡ m = cc in rw r at (rw whole at c.holds);
-            small = λ m z. let r : n ≡ m = cc in let few : total (take n table) ≤ length s = omega (arith, c.small, c.in_set.standing.inside) in rw r at few;
-          }
-        where
-          none : fragments_left s at ≡ []
-          none = none_left s at finds-here (sym end_is ∙ y)
-
-          whole : c.earlier ≡ fragments_left s from
-          whole = sym (append-nil c.earlier) ∙ ap (λ (l : List Fragment). c.earlier ++ l) (sym none) ∙ c.split
-
-      module _ (y : b ≡ false) {o : Bool} (oe : o ≡ is_ods t) where
-        goes : is_end (segment_type (drop at s)) ≡ false
-        goes = sym end_is ∙ y
-
-        ods-is : o ≡ is_ods (segment_type (drop at s))
-        ods-is = oe ∙ ap is_ods its-kind
-
-        -- a segment that is no ODS is passed
-        pub finds-on : o ≡ false → Finding s from room table (at + (13 + h.segment_size)) n
-        finds-on z =
-            let same : fragments_left s at ≡ fragments_left s (at + used_by (drop at s)) = left-same s at finds-here goes (sym ods-is ∙ z) in
-            rw (size-read (drop at s) e)
-            (record {
-              in_set = inside_on s c.in_set goes;
-              same = c.same;
-              earlier = c.earlier;
-              split = ap (λ (l : List Fragment). c.earlier ++ l) (sym same) ∙ c.split;
-              verdict = ap (verdict_after room c.earlier) (sym same) ∙ c.verdict;
-              holds = c.holds;
-              small = omega (arith, c.small);
-            })
-
-        module _ (z : o ≡ true) where
-          pub its-ods : is_ods (segment_type (drop at s)) ≡ true
-          its-ods = sym ods-is ∙ z
-
-          next : fragments_left s at ≡ fragment_at at (drop at s) ∷ fragments_left s (at + used_by (drop at s))
-          next = left-next s at finds-here goes its-ods
+      module _ {t : SegmentType} {b : Bool} (e : t ≡ type_of x.header.segment_type) (q : b ≡ is_ods t) where
+        module _ (z : b ≡ true) {f : FragmentNumbers} (ef : f ≡ fragment_numbers (fragment_in s x)) where
+          next : fragments_in s xs ≡ fragment_in s x ∷ fragments_in s left
+          next = in-next s here e q z
 
           -- the lengths fit
-          pub finds-fit : {f : FragmentNumbers} → f ≡ fragment_numbers (fragment_at at (drop at s)) → total (take n table) + f.len ≤ length s
-          finds-fit ef =
-              omega
-              (arith, c.small, ap (λ (x : FragmentNumbers). x.len) ef, bytes-within at (drop at s) finds-here its-ods, within-here s at finds-here)
+          pub finds-fit : total rows + f.len + length (joined (fragments_in s left)) ≤ length s
+          finds-fit =
+              omega (
+                arith,
+                c.small,
+                ap (λ (fs : List Fragment). length (joined fs)) next,
+                length-append (fragment_in s x).bytes (joined (fragments_in s left)),
+                ap (λ (y : FragmentNumbers). y.len) ef,
+              )
 
-          turned-here : {k : ℕ} → fragment_verdict room (chains_of c.earlier) (fragment_at at (drop at s)) ≡ refused k
-              → verdict_after room [] (fragments_left s from) ≡ refused k
-          turned-here {k} v =
-              sym c.verdict
-              ∙ ap (verdict_after room c.earlier) next
-              ∙ ap (λ (w : Verdict). and_then w (verdict_after room (c.earlier ++ (fragment_at at (drop at s) ∷ [])) (fragments_left s (at + used_by (drop at s))))) v
+          module _ {now : List ChainRow} {answer : Verdict} (w : Leaves (take_verdict rows f) (rows_after rows f) now answer) where
+            decides : and_then answer (taking_verdict (rows_after rows f) (fragments_in s left)) ≡ verdict_after object_limit [] (fragments_left s from)
+            decides =
+                (λ j. and_then ((w.answered ∙ ap (take_verdict rows) ef) j) (taking_verdict (rows_after rows (ef j)) (fragments_in s left)))
+                ∙ ap (taking_verdict rows) (sym next)
+                ∙ c.verdict
+                ∙ taking-all (fragments_left s from)
 
-          -- a fragment that is refused decides
-          pub found-refusal : {f : FragmentNumbers} {table' : List ChainRow} {k : ℕ} → f ≡ fragment_numbers (fragment_at at (drop at s)) → length table' ≡ length table
-              → Took table table' n f (refuses k) → FoundChains (fragments_left s from) (length s) table' (refuses k)
-          found-refusal {f} {table'} {k} ef el w =
-              record {
-                turned = λ m x.
-                    let r : k ≡ m = cc in
-                    ap (λ (j : ℕ). verdict_after j [] (fragments_left s from)) (el ∙ c.same)
-                    ∙ turned-here
-                    (ap (λ (j : ℕ). fragment_verdict j (chains_of c.earlier) (fragment_at at (drop at s))) (sym c.same)
-                    ∙ w.turned c.earlier (fragment_at at (drop at s)) c.holds ef k refl)
-                    ∙ ap refused r;
-                accepts = λ m x. absurd (let y : ◌≡◌ {A = ℕ} 0 1 = cc in omega arith);
-                holds = λ m x. absurd (let y : ◌≡◌ {A = ℕ} 0 1 = cc in omega arith);
-                small = λ m x. absurd (let y : ◌≡◌ {A = ℕ} 0 1 = cc in omega arith);
-              }
+            -- a fragment that is refused decides
+            pub finds-refusal : {k : ℕ} {any : List ChainRow} → answer ≡ refused k
+                → Leaves (verdict_after object_limit [] (fragments_left s from)) (map chain_row (chains_of (fragments_left s from))) any (refused k)
+            finds-refusal {k} {any} a =
+                record {
+                  answered = ap (λ (v : Verdict). and_then v (taking_verdict (rows_after rows f) (fragments_in s left))) (sym a) ∙ decides;
+                  left = λ y. absurd (not-both y refl);
+                }
 
-          -- a fragment is taken
-          pub finds-more : {f : FragmentNumbers} {table' : List ChainRow} {n' : ℕ} → f ≡ fragment_numbers (fragment_at at (drop at s)) → length table' ≡ length table
-              → Took table table' n f (gives n') → Finding s from room table' (at + (13 + h.segment_size)) n'
-          finds-more {f} {table'} {n'} ef el w =
-              rw (size-read (drop at s) e)
-              (record {
-                in_set = inside_on s c.in_set goes;
-                same = el ∙ c.same;
-                earlier = c.earlier ++ (fragment_at at (drop at s) ∷ []);
-                split = append_assoc c.earlier (fragment_at at (drop at s) ∷ []) (fragments_left s (at + used_by (drop at s))) ∙ ap (λ (l : List Fragment). c.earlier ++ l) (sym next) ∙ c.split;
-                verdict =
-                    sym (ap (verdict_after room c.earlier) next
-                    ∙ ap (λ (v : Verdict). and_then v (verdict_after room (c.earlier ++ (fragment_at at (drop at s) ∷ [])) (fragments_left s (at + used_by (drop at s))))) taken)
-                    ∙ c.verdict;
-                holds = g.holds;
-                small = omega (arith, g.more, c.small, bytes-within at (drop at s) finds-here its-ods);
-              })
-            where
-              g : Grown c.earlier (fragment_at at (drop at s)) table table' n n'
-              g = w.grew c.earlier (fragment_at at (drop at s)) c.holds ef n' refl
-
-              taken : fragment_verdict room (chains_of c.earlier) (fragment_at at (drop at s)) ≡ accepted
-              taken = ap (λ (j : ℕ). fragment_verdict j (chains_of c.earlier) (fragment_at at (drop at s))) (sym c.same) ∙ g.accepts
+            -- a fragment is taken
+            pub finds-more : answer ≡ accepted → Finding s from now left
+            finds-more a =
+                record {
+                  stand = its-stand.1;
+                  verdict = ap (λ (l : List ChainRow). taking_verdict l (fragments_in s left)) (w.left a)
+                      ∙ ap (λ (v : Verdict). and_then v (taking_verdict (rows_after rows f) (fragments_in s left))) (sym a)
+                      ∙ decides
+                      ∙ sym (taking-all (fragments_left s from));
+                  whole = ap (λ (l : List ChainRow). rows_with l (fragments_in s left)) (w.left a)
+                      ∙ (λ j. rows_with (rows_after rows (ef j)) (fragments_in s left))
+                      ∙ ap (rows_with rows) (sym next)
+                      ∙ c.whole;
+                  small = rw (w.left a) (omega (arith, total-after rows f, finds-fit));
+                }

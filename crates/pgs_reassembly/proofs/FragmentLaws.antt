@@ -6,13 +6,12 @@ use Prim.Native.Nat.{ℕ, ◌+◌, ◌-◌, ◌≤◌}
 use native.Mathlib.Omega.{arith}
 use borrow.Author.Tests.{leb-true}
 use lib.Dec.{leb}
-use lib.ListN.{length, take, drop, length-drop, length-take}
+use lib.ListN.{length, take, drop, length-drop, length-take, length-append}
 use lib.Seq.{drop-drop, drop_at, length-take-le, take-add, take-take}
-use Rattle.pgs_base.specs.Outcome.{accepted, refused, Outcome, gives, refuses, outcome_of, unless, pick}
-use Rattle.pgs_base.proofs.Outcomes.{gave-value, turned_down, first-accepts, second_holds, holds}
+use Rattle.pgs_base.specs.Outcome.{accepted, Outcome, gives, refuses, outcome_of, unless, pick}
+use Rattle.pgs_base.proofs.Outcomes.{gave-value, turned_down, first-accepts, second_holds, holds, not-both}
 use Rattle.pgs_segment.specs.Fields.{body_verdict}
-use Rattle.pgs_segment.specs.Header.{size_of}
-use Rattle.pgs_views.specs.Fragments.{fragment_of, is_first, is_last}
+use Rattle.pgs_segment.specs.Header.{header_fields, size_of}
 use Rattle.pgs_ods.specs.OdsBody.{flag_of, head_size, ods_of, ods_data, ods_list, ods_verdict}
 use Rattle.pgs_segment.specs.OneSegment.{segment_type, segment_verdict, used_by, body_at}
 use Rattle.pgs_stream.specs.Stream.{step_verdict}
@@ -20,15 +19,19 @@ use Rattle.pgs_segment.proofs.SegmentLaws.{accepted-body}
 use Rattle.pgs_stream.proofs.StreamLaws.{step-within}
 use Rattle.pgs_views.specs.declared.segment_type.SegmentType.{SegmentType}
 use Rattle.pgs_views.specs.declared.segment_type.SegmentType.TheVariants.{Pds, Ods, Pcs, Wds, End, Other}
-use Rattle.pgs_views.specs.declared.fragment_flag.FragmentFlag.{FragmentFlag}
 use Rattle.pgs_ods.specs.declared.ods.Ods as declared-ods
 use Rattle.pgs_records.specs.declared.BodyList.{BodyList}
 use Rattle.pgs_set.proofs.Choices.{pick_first, pick_second}
 use Rattle.pgs_set.proofs.WalkLaws.{step-length, pieces-here, type-of-piece, piece-length, head-field, within-here}
-use Rattle.pgs_reassembly.specs.Objects.{Fragment, is_ods, fragment_at, fragments_from, data_place, width_in, height_in}
+use Rattle.pgs_reassembly.specs.Objects.{Fragment, is_ods, fragment_at, fragments_from, data_place, joined}
 use Rattle.pgs_set.specs.Sets.{is_end, through_end}
-use Rattle.pgs_reassembly.specs.Tables.{fragment_numbers, fragments_left}
-use Rattle.pgs_set.specs.Walks.{pieces_at}
+use Rattle.pgs_reassembly.specs.Tables.{fragment_numbers, fragments_left, fragments_in}
+use Rattle.pgs_set.specs.Walks.{pieces_at, InSet}
+use Rattle.pgs_stream.specs.Segments.{placed}
+use Rattle.pgs_set.specs.Segments.{set_segments}
+use Rattle.pgs_stream.specs.declared.segments.PlacedSegment.{PlacedSegment}
+use Rattle.pgs_set.proofs.SetLaws.{inside-here}
+use Rattle.pgs_set.proofs.SegmentLaws.{by-segments}
 
 ods-only : (t : SegmentType) → is_ods t ≡ true → t ≡ Ods
 ods-only Ods e = refl
@@ -61,16 +64,16 @@ lent-body s at {used} e =
 abbrev pub read_as : List ℕ → Outcome (declared-ods.Ods × BodyList)
 read_as b = outcome_of (ods_verdict b) (ods_of b, ods_list b)
 
--- over the body as it is
-module _ (s : List ℕ) (at : ℕ) {used : ℕ} (e : used ≡ used_by (drop at s)) where
+-- over the body of a segment, which ends where the segment does
+module _ (s : List ℕ) (at : ℕ) {end : ℕ} (e : end ≡ at + used_by (drop at s)) where
   lent-answer : {o : Outcome (declared-ods.Ods × BodyList)}
-      → o ≡ read_as (take (at + used - (at + 13)) (drop (at + 13) s))
+      → o ≡ read_as (take (end - (at + 13)) (drop (at + 13) s))
       → o ≡ read_as (body_at (drop at s))
-  lent-answer q = q ∙ ap read_as (lent-body s at e)
+  lent-answer q = q ∙ ap (λ (n : ℕ). read_as (take (n - (at + 13)) (drop (at + 13) s))) e ∙ ap read_as (lent-body s at refl)
 
   -- the numbers and the part of the data
   pub numbers-read : {o : declared-ods.Ods} {d : BodyList}
-      → ◌≡◌ {A = Outcome (declared-ods.Ods × BodyList)} (gives (o, d)) (read_as (take (at + used - (at + 13)) (drop (at + 13) s)))
+      → ◌≡◌ {A = Outcome (declared-ods.Ods × BodyList)} (gives (o, d)) (read_as (take (end - (at + 13)) (drop (at + 13) s)))
       → (o ≡ ods_of (body_at (drop at s))) × (d ≡ ods_list (body_at (drop at s)))
   numbers-read q =
       let p = gave-value (ods_verdict (body_at (drop at s))) (ods_of (body_at (drop at s)), ods_list (body_at (drop at s))) (lent-answer q) in
@@ -78,42 +81,20 @@ module _ (s : List ℕ) (at : ℕ) {used : ℕ} (e : used ≡ used_by (drop at s
 
   -- it cannot be refused
   pub never-refused : {k : ℕ} → step_verdict (drop at s) ≡ accepted → is_ods (segment_type (drop at s)) ≡ true
-      → refuses k ≡ read_as (take (at + used - (at + 13)) (drop (at + 13) s))
+      → refuses k ≡ read_as (take (end - (at + 13)) (drop (at + 13) s))
       → ⊥
   never-refused {k} ok kind q =
-      let z : refused k ≡ accepted
-      = sym (turned_down (ods_verdict (body_at (drop at s))) (ods_of (body_at (drop at s)), ods_list (body_at (drop at s))) (lent-answer q))
-      ∙ body-accepted (drop at s) ok kind in
-      let y : ◌≡◌ {A = ℕ} 0 1 = cc in omega arith
+      not-both (body-accepted (drop at s) ok kind)
+      (turned_down (ods_verdict (body_at (drop at s))) (ods_of (body_at (drop at s)), ods_list (body_at (drop at s))) (lent-answer q))
 
 -- the numbers that were read are the fragment's
-pub head_read : (at : ℕ) (l : List ℕ) {o : declared-ods.Ods} {d : BodyList} {w h : ℕ} {a b : FragmentFlag} {f g : Bool}
-    → (o ≡ ods_of (body_at l)) × (d ≡ ods_list (body_at l)) → w ≡ width_in o.dimensions → h ≡ height_in o.dimensions
-    → a ≡ fragment_of o.last_in_sequence_flag → f ≡ is_first a → b ≡ fragment_of o.last_in_sequence_flag → g ≡ is_last b
-    → record {
-      id = o.object_id;
-      version = o.object_version_number;
-      width = w;
-      height = h;
-      declared = o.object_data_length;
-      first = f;
-      last = g;
-      place = at;
-      start = at + 13 + d.start;
-      len = d.len;
-    }
-    ≡ fragment_numbers (fragment_at at l)
-head_read at l p ew eh ea ef eb eg =
+pub head_read : (at : ℕ) (l : List ℕ) {o : declared-ods.Ods} {d : BodyList} → (o ≡ ods_of (body_at l)) × (d ≡ ods_list (body_at l))
+    → record { place = at; ods = o; start = at + 13 + d.start; len = d.len } ≡ fragment_numbers (fragment_at at l)
+head_read at l p =
     λ j.
     record {
-      id = (p.0 j).object_id;
-      version = (p.0 j).object_version_number;
-      width = (ew ∙ ap (λ (o : declared-ods.Ods). width_in o.dimensions) p.0) j;
-      height = (eh ∙ ap (λ (o : declared-ods.Ods). height_in o.dimensions) p.0) j;
-      declared = (p.0 j).object_data_length;
-      first = (ef ∙ ap is_first ea ∙ ap (λ (o : declared-ods.Ods). is_first (fragment_of o.last_in_sequence_flag)) p.0) j;
-      last = (eg ∙ ap is_last eb ∙ ap (λ (o : declared-ods.Ods). is_last (fragment_of o.last_in_sequence_flag)) p.0) j;
       place = at;
+      ods = p.0 j;
       start = at + 13 + (p.1 j).start;
       len = (ap (λ (x : BodyList). x.len) p.1 ∙ sym (length-drop (head_size (flag_of (body_at l))) (body_at l))) j;
     }
@@ -214,3 +195,48 @@ module _ (s : List ℕ) (at : ℕ) (ok : step_verdict (drop at s) ≡ accepted) 
 
         drop_of_take : (a b : ℕ) (xs : List ℕ) → a + b ≤ length xs → drop a (take (a + b) xs) ≡ take b (drop a xs)
         drop_of_take a b xs q = ap (drop a) (take-add a b xs) ∙ drop_at (take a xs) (take b (drop a xs)) a (length-take-le a xs (omega arith))
+
+-- over the segments of an open set
+module _ (s : List ℕ) {at : ℕ} (i : InSet s at) where
+  -- the fragments are those in its segments
+  pub in-segments : fragments_left s at ≡ fragments_in s (set_segments s at)
+  in-segments =
+      by-segments s (λ (p : ℕ) (xs : List PlacedSegment). fragments_left s p ≡ fragments_in s xs) last more at i
+    where
+      last : (p : ℕ) → InSet s p → is_end (segment_type (drop p s)) ≡ true
+          → fragments_left s p ≡ fragments_in s (placed p (header_fields (drop p s)) ∷ [])
+      last p k e = none_left s p (inside-here s k) e ∙ sym (no-fragment (segment_type (drop p s)) e)
+        where
+          no-fragment : (t : SegmentType) → is_end t ≡ true → pick (is_ods t) (fragment_at p (drop p s) ∷ []) [] ≡ []
+          no-fragment Pcs z = cc
+          no-fragment Wds z = cc
+          no-fragment Pds z = cc
+          no-fragment Ods z = cc
+          no-fragment End z = refl
+          no-fragment (Other v) z = cc
+
+      more : (p : ℕ) → InSet s p → is_end (segment_type (drop p s)) ≡ false
+          → fragments_left s (p + used_by (drop p s)) ≡ fragments_in s (set_segments s (p + used_by (drop p s)))
+          → fragments_left s p ≡ fragments_in s (placed p (header_fields (drop p s)) ∷ set_segments s (p + used_by (drop p s)))
+      more p k e on =
+          left-on s p (inside-here s k) e
+          ∙ ap (λ (l : List Fragment). pick (is_ods (segment_type (drop p s))) (fragment_at p (drop p s) ∷ l) l) on
+
+  -- their data together is no longer than the stream
+  pub bytes-left : length (joined (fragments_left s at)) ≤ length s - at
+  bytes-left =
+      by-segments s (λ (p : ℕ) (xs : List PlacedSegment). length (joined (fragments_left s p)) ≤ length s - p) last more at i
+    where
+      last : (p : ℕ) → InSet s p → is_end (segment_type (drop p s)) ≡ true → length (joined (fragments_left s p)) ≤ length s - p
+      last p k e = rw (none_left s p (inside-here s k) e) (omega arith)
+
+      more : (p : ℕ) → InSet s p → is_end (segment_type (drop p s)) ≡ false
+          → length (joined (fragments_left s (p + used_by (drop p s)))) ≤ length s - (p + used_by (drop p s))
+          → length (joined (fragments_left s p)) ≤ length s - p
+      more p k e on = go (is_ods (segment_type (drop p s))) refl
+        where
+          go : (b : Bool) → is_ods (segment_type (drop p s)) ≡ b → length (joined (fragments_left s p)) ≤ length s - p
+          go false q = rw (left-same s p (inside-here s k) e q) (omega (arith, on))
+          go true q =
+              rw (left-next s p (inside-here s k) e q, length-append)
+              (omega (arith, on, bytes-within p (drop p s) (inside-here s k) q, within-here s p (inside-here s k)))

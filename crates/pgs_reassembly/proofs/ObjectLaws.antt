@@ -1,34 +1,34 @@
--- The chains of a set and where their data stands, and how reassembling objects ends. Assumes nothing.
+-- The chains of a set and where their data stands, and how finding, listing and joining them end. Assumes nothing.
 use mathlib.Core.Path.{◌≡◌, refl, sym, ap, subst, ◌∙◌}
 use mathlib.Core.Bool.{Bool, true, false}
 use mathlib.Core.List.{List, [], ◌∷◌, ◌++◌, map}
 use Prim.Native.Nat.{ℕ, ◌+◌, ◌≤◌, ◌<◌}
 use native.Mathlib.Omega.{arith}
-use borrow.Author.Tests.{eq-eqb, le-leb, lt-leb}
-use lib.Dec.{ltb}
+use borrow.Author.Tests.{eq-eqb, le-leb, lt-leb, leb-true}
+use lib.Dec.{leb, ltb}
 use lib.ListN.{length, take, drop, length-map}
-use lib.Seq.{length-take-le}
-use Rattle.pgs_base.specs.Outcome.{Verdict, accepted, refused, gives, refuses, outcome_of, and_then, unless, laid, Delivered, pick}
-use Rattle.pgs_segment.specs.Header.{header_fields}
+use Rattle.pgs_base.specs.Outcome.{Verdict, accepted, refused, gives, refuses, and_then, unless, needing, laid, delivery, Delivered, pick}
+use Rattle.pgs_base.proofs.Outcomes.{not-both, not-refused, holds, second_holds}
 use Rattle.pgs_segment.specs.OneSegment.{segment_type, used_by}
 use Rattle.pgs_stream.specs.Stream.{Reading, step_verdict}
 use Rattle.pgs_stream.proofs.StreamLaws.{read-stops}
-use Rattle.pgs_segment.specs.declared.header.SegmentHeader.{SegmentHeader}
-use Rattle.pgs_base.proofs.Outcomes.{gave, gave-value, turned_down, delivers-short, delivers-all, not-refused}
 use Rattle.pgs_set.proofs.Choices.{pick_first}
-use Rattle.pgs_reassembly.proofs.FragmentLaws.{none_left, left-same, left-next}
-use Rattle.pgs_reassembly.proofs.ListingLaws.{rows-verdict, rows-joined, rows-records, record-count}
-use Rattle.pgs_set.proofs.NumberLaws.{stands_here}
-use Rattle.pgs_set.proofs.SetLaws.{size-read, set_here}
+use Rattle.pgs_set.proofs.NumberLaws.{stands-begins}
+use Rattle.pgs_set.proofs.SegmentLaws.{by-segments}
+use Rattle.pgs_set.proofs.SetLaws.{set_here, inside-here, outside-here}
 use Rattle.pgs_set.proofs.WalkLaws.{pieces-here, piece-length}
-use Rattle.pgs_reassembly.specs.Objects.{Fragment, Chain, is_ods, fragment_at, fragments_from, id_of, opens_chain}
-use Rattle.pgs_reassembly.specs.Objects.{with_id, joined, chains_of, data_of, chains_verdict, fragments_verdict}
-use Rattle.pgs_reassembly.specs.Objects.{verdict_after, fragments_of, objects_of, objects_verdict_within}
-use Rattle.pgs_reassembly.specs.Reassembly.{copied, joined_data, object_rows, Reassembled}
 use Rattle.pgs_set.specs.Sets.{set_number, set_verdict, is_end, through_end, set_count, sets_verdict}
-use Rattle.pgs_reassembly.specs.Tables.{chain_row, total, FoundChains, Rows, Gathered, rows_verdict, joined_in, records_from, row_data, joined_rows, Measured, fragments_left}
-use Rattle.pgs_set.specs.Walks.{pieces_at, SetStands}
+use Rattle.pgs_set.specs.Walks.{pieces_at, InSet, SetBegins, SetStands, set_at}
+use Rattle.pgs_stream.specs.declared.segments.PlacedSegment.{PlacedSegment}
+use Rattle.pgs_reassembly.proofs.FragmentLaws.{none_left, left-same, left-next}
+use Rattle.pgs_reassembly.proofs.ListingLaws.{rows-verdict, rows-joined, rows-records, objects-count}
+use Rattle.pgs_reassembly.specs.Objects.{Fragment, Chain, is_ods, fragment_at, fragments_from, id_of, opens_chain}
+use Rattle.pgs_reassembly.specs.Objects.{with_id, joined, chains_of, data_of, chains_verdict, fragments_verdict, object_limit}
+use Rattle.pgs_reassembly.specs.Objects.{verdict_after, fragments_of, objects_of, objects_verdict, objects_verdict_within}
+use Rattle.pgs_reassembly.specs.Reassembly.{copied, joined_data, object_records, reassembly, Reassembled}
+use Rattle.pgs_reassembly.specs.Tables.{chain_row, total, Leaves, Rows, Found, rows_verdict, joined_in, records_from, row_data, joined_rows, AllJoinable, fragments_left}
 use Rattle.pgs_reassembly.specs.declared.ChainRow.{ChainRow}
+use Rattle.pgs_reassembly.specs.declared.ObjectRecord.{ObjectRecord}
 
 -- a chain's first fragment is the ODS at its place, and the fragments of its id from there on have its data
 pub record Begins (s : List ℕ) (c : Chain) : Type 0 where
@@ -100,146 +100,175 @@ all_from s (x ∷ xs) at e = go (is_end (segment_type (drop at s))) (is_ods (seg
 pub all-begin : (s : List ℕ) (at : ℕ) → AllBegin s (chains_of (fragments_left s at))
 all-begin s at = all_from s (pieces_at s at) at refl
 
--- the rows of such chains are measured, and lead to the joined data
-pub rows-measured : (s : List ℕ) (cs : List Chain) → AllBegin s cs → Measured s (map chain_row cs)
-rows-measured s [] a = tt
-rows-measured s (c ∷ cs) a = (ap length a.0.together, rows-measured s cs a.1)
+-- and a set is open where its first segment stands
+abbrev pub AllOpen : List ℕ → List Chain → Type 0
+AllOpen s [] = Unit {0}
+AllOpen s (c ∷ cs) = InSet s c.first.place × AllOpen s cs
 
-pub rows-data : (s : List ℕ) (cs : List Chain) → AllBegin s cs → joined_rows s (map chain_row cs) ≡ joined_data cs
+pub all-open : (s : List ℕ) {at : ℕ} → InSet s at → AllOpen s (chains_of (fragments_left s at))
+all-open s {at} i = by-segments s (λ (p : ℕ) (xs : List PlacedSegment). AllOpen s (chains_of (fragments_left s p))) last more at i
+  where
+    over : {fs gs : List Fragment} → fs ≡ gs → AllOpen s (chains_of gs) → AllOpen s (chains_of fs)
+    over e a = subst (λ (l : List Fragment). AllOpen s (chains_of l)) (sym e) a
+
+    last : (p : ℕ) → InSet s p → is_end (segment_type (drop p s)) ≡ true → AllOpen s (chains_of (fragments_left s p))
+    last p k e = over (none_left s p (inside-here s k) e) tt
+
+    more : (p : ℕ) → InSet s p → is_end (segment_type (drop p s)) ≡ false → AllOpen s (chains_of (fragments_left s (p + used_by (drop p s))))
+        → AllOpen s (chains_of (fragments_left s p))
+    more p k e on = go (is_ods (segment_type (drop p s))) refl
+      where
+        opens : (b : Bool)
+            → AllOpen s
+            (pick b
+            (record { first = fragment_at p (drop p s); further = with_id (id_of (fragment_at p (drop p s))) (fragments_left s (p + used_by (drop p s))) }
+            ∷ chains_of (fragments_left s (p + used_by (drop p s))))
+            (chains_of (fragments_left s (p + used_by (drop p s)))))
+        opens true = (k, on)
+        opens false = on
+
+        go : (b : Bool) → is_ods (segment_type (drop p s)) ≡ b → AllOpen s (chains_of (fragments_left s p))
+        go false q = over (left-same s p (inside-here s k) e q) on
+        go true q = over (left-next s p (inside-here s k) e q) (opens (opens_chain (fragment_at p (drop p s))))
+
+-- the rows of such chains can be joined, and lead to the joined data
+rows-joinable : (s : List ℕ) (cs : List Chain) → AllBegin s cs → AllOpen s cs → AllJoinable s (map chain_row cs)
+rows-joinable s [] a o = tt
+rows-joinable s (c ∷ cs) a o = (record { in_set = o.0; measured = ap length a.0.together }, rows-joinable s cs a.1 o.1)
+
+rows-data : (s : List ℕ) (cs : List Chain) → AllBegin s cs → joined_rows s (map chain_row cs) ≡ joined_data cs
 rows-data s [] a = refl
 rows-data s (c ∷ cs) a = λ j. pick (copied c) (a.0.together j) [] ++ rows-data s cs a.1 j
 
--- how a call ends, over the chains
-module _ {v : Verdict} {cs : List Chain} {list : List (List ℕ)} {scratch : List ℕ} where
-  pub reassembles-refusal : {k : ℕ} → v ≡ refused k → Reassembled v cs list list scratch scratch (refuses k)
-  reassembles-refusal e = record { answered = rw e; listed = rw e; written = rw e }
-
-  pub reassembles-few : v ≡ accepted → length list < length cs → Reassembled v cs list list scratch scratch (refuses 34)
-  reassembles-few e h =
-      record { answered = simp (e, lt-leb _ _ h); listed = simp (e, lt-leb _ _ h); written = simp (e, lt-leb _ _ h) }
-
-  pub reassembles-short : v ≡ accepted → length cs ≤ length list → length scratch < length (joined_data cs)
-      → Reassembled v cs list list scratch scratch (refuses 34)
-  reassembles-short e h q =
-      record {
-        answered = simp (e, le-leb _ _ h, lt-leb _ _ q);
-        listed = simp (e, le-leb _ _ h, lt-leb _ _ q);
-        written = simp (e, le-leb _ _ h, lt-leb _ _ q);
-      }
-
-  pub reassembles-all : {list' : List (List ℕ)} {scratch' : List ℕ} {n : ℕ} → v ≡ accepted → length cs ≤ length list → length (joined_data cs) ≤ length scratch
-      → n ≡ length cs → list' ≡ laid accepted (object_rows cs) list → scratch' ≡ laid accepted (joined_data cs) scratch
-      → Reassembled v cs list list' scratch scratch' (gives n)
-  reassembles-all e h q en el es =
-      record {
-        answered = simp (e, le-leb _ _ h, le-leb _ _ q) (ap gives en);
-        listed = simp (e, le-leb _ _ h, le-leb _ _ q) el;
-        written = simp (e, le-leb _ _ h, le-leb _ _ q) es;
-      }
-
 -- how finding the objects ends
 
-gathered_none : {s : List ℕ} {v : Verdict} {cs : List Chain} {table : List ChainRow} {k : ℕ} → v ≡ refused k → Gathered s v cs table (refuses k)
-gathered_none {k = k} e =
-    record {
-      turned = λ j q. let r : k ≡ j = cc in e ∙ ap refused r;
-      found = λ n need q. absurd (let z : ◌≡◌ {A = ℕ} 0 1 = cc in omega arith);
-    }
+pub found-refusal : {s : List ℕ} {v : Verdict} {cs : List Chain} {now : List ChainRow} {k : ℕ} → v ≡ refused k → Found s v cs now (refused k)
+found-refusal e = record { answered = sym e; found = λ a. absurd (not-both a refl) }
 
-gathered-all : {s : List ℕ} {v : Verdict} {cs : List Chain} {table : List ChainRow} {n need : ℕ} → Rows s v cs table n need → Gathered s v cs table (gives (n, need))
-gathered-all {n = n} {need = need} r =
-    record {
-      turned = λ j q. absurd (let z : ◌≡◌ {A = ℕ} 0 1 = cc in omega arith);
-      found = λ m d q.
-          let p : ◌≡◌ {A = ℕ × ℕ} (n, need) (m, d) = cc in
-          let en : n ≡ m = ap (λ (x : ℕ × ℕ). x.0) p in
-          let ed : need ≡ d = ap (λ (x : ℕ × ℕ). x.1) p in
-          rw (en, ed) at r;
-    }
+module _ (s : List ℕ) {from : ℕ} (i : InSet s from) {now : List ChainRow} {answer : Verdict}
+    (w : Leaves (verdict_after object_limit [] (fragments_left s from)) (map chain_row (chains_of (fragments_left s from))) now answer)
+    (small : answer ≡ accepted → total now ≤ length s) where
+  -- finding the chains was refused
+  pub finding-refused : {any : List ChainRow} {k : ℕ} → answer ≡ refused k
+      → Found s (fragments_verdict object_limit (fragments_left s from)) (chains_of (fragments_left s from)) any (refused k)
+  finding-refused a =
+      found-refusal (ap (λ (v : Verdict). and_then v (chains_verdict (chains_of (fragments_left s from)))) (sym w.answered ∙ a))
 
--- over the table that finding the chains left
-module _ (s : List ℕ) (from : ℕ) (table table' : List ChainRow) (same : length table' ≡ length table) where
-  pub found_none : {k : ℕ} → FoundChains (fragments_left s from) (length s) table' (refuses k)
-      → Gathered s (fragments_verdict (length table) (fragments_left s from)) (chains_of (fragments_left s from)) table' (refuses k)
-  found_none {k = k} f =
-      gathered_none
-      (ap (λ (v : Verdict). and_then v (chains_verdict (chains_of (fragments_left s from))))
-      (ap (λ (j : ℕ). verdict_after j [] (fragments_left s from)) (sym same) ∙ f.turned k refl))
-
-  module _ (n : ℕ) (f : FoundChains (fragments_left s from) (length s) table' (gives n)) where
-    pub found_within : n ≤ length table'
-    found_within = (f.holds n refl).within
-
-    pub found-length : n ≡ length (take n table')
-    found-length = sym (length-take-le n table' found_within)
-
-    its-rows : take n table' ≡ map chain_row (chains_of (fragments_left s from))
-    its-rows = (f.holds n refl).rows
-
-    pub found-small : total (take n table') ≤ length s
-    found-small = f.small n refl
-
+  module _ (a : answer ≡ accepted) where
     -- the tests of the objects decide
-    decides : fragments_verdict (length table) (fragments_left s from) ≡ rows_verdict (take n table')
+    decides : fragments_verdict object_limit (fragments_left s from) ≡ rows_verdict now
     decides =
-        ap (λ (v : Verdict). and_then v (chains_verdict (chains_of (fragments_left s from))))
-        (ap (λ (j : ℕ). verdict_after j [] (fragments_left s from)) (sym same) ∙ f.accepts n refl)
-        ∙ sym (ap rows_verdict its-rows ∙ rows-verdict (chains_of (fragments_left s from)))
+        ap (λ (v : Verdict). and_then v (chains_verdict (chains_of (fragments_left s from)))) (sym w.answered ∙ a)
+        ∙ sym (ap rows_verdict (w.left a) ∙ rows-verdict (chains_of (fragments_left s from)))
 
-    pub found-refused : {k : ℕ} → refuses k ≡ outcome_of (rows_verdict (take n table')) (joined_in (take n table'))
-        → Gathered s (fragments_verdict (length table) (fragments_left s from)) (chains_of (fragments_left s from)) table' (refuses k)
-    found-refused e = gathered_none (decides ∙ turned_down (rows_verdict (take n table')) (joined_in (take n table')) e)
-
-    pub found_all : {need : ℕ} → gives need ≡ outcome_of (rows_verdict (take n table')) (joined_in (take n table'))
-        → Gathered s (fragments_verdict (length table) (fragments_left s from)) (chains_of (fragments_left s from)) table' (gives (n, need))
-    found_all e =
-        gathered-all
-        (record {
-          accepts = decides ∙ gave (rows_verdict (take n table')) (joined_in (take n table')) e;
-          within = found_within;
-          rows = its-rows;
-          small = found-small;
-          measured = rw its-rows (rows-measured s (chains_of (fragments_left s from)) (all-begin s from));
-          bytes = ap (joined_rows s) its-rows ∙ rows-data s (chains_of (fragments_left s from)) (all-begin s from);
-          joins = gave-value (rows_verdict (take n table')) (joined_in (take n table')) e;
-        })
+    pub tests-end : {v : Verdict} → v ≡ rows_verdict now
+        → Found s (fragments_verdict object_limit (fragments_left s from)) (chains_of (fragments_left s from)) now v
+    tests-end e =
+        record {
+          answered = e ∙ sym decides;
+          found = λ _. record {
+            rows = w.left a;
+            small = small a;
+            joinable = rw (w.left a) (rows-joinable s (chains_of (fragments_left s from)) (all-begin s from) (all-open s i));
+            bytes = ap (joined_rows s) (w.left a) ∙ rows-data s (chains_of (fragments_left s from)) (all-begin s from);
+          };
+        }
 
 -- how the calls over what was found end
-module _ (s : List ℕ) (v : Verdict) (cs : List Chain) (table : List ChainRow) (n need : ℕ) (r : Rows s v cs table n need) where
-  pub rows-length : n ≡ length (take n table)
-  rows-length = sym (length-take-le n table r.within)
+module _ {s : List ℕ} {cs : List Chain} {now : List ChainRow} (r : Rows s cs now) where
+  pub rows-count : length now ≡ length cs
+  rows-count = ap length r.rows ∙ length-map cs chain_row
 
-  pub rows-count : n ≡ length cs
-  rows-count = rows-length ∙ ap length r.rows ∙ length-map cs chain_row
+  pub need-is : joined_in now ≡ length (joined_data cs)
+  need-is = ap joined_in r.rows ∙ rows-joined cs
 
-  need-is : need ≡ length (joined_data cs)
-  need-is = r.joins ∙ ap joined_in r.rows ∙ rows-joined cs
+  pub its-records : records_from 0 now ≡ object_records cs
+  its-records = ap (records_from 0) r.rows ∙ rows-records 0 cs
 
-  records : records_from 0 (take n table) ≡ object_rows cs
-  records = ap (records_from 0) r.rows ∙ rows-records 0 cs
+-- a call over these objects, and a list that has room for their records
+module _ (v : Verdict) (cs : List Chain) (room : ℕ) where
+  room-for : and_then v (needing (length cs) room) ≡ accepted → length cs ≤ room
+  room-for e = leb-true (length cs) room (holds 34 (leb (length cs) room) (second_holds v (needing (length cs) room) e))
 
-  module _ {list : List (List ℕ)} where
-    pub lists-short : length list < n → Delivered v (length cs) (object_rows cs) list list (refuses 34)
-    lists-short h = delivers-short r.accepts (omega (arith, rows-count, record-count 0 cs))
+  -- the objects are refused, or there is no room
+  pub unlisted : {s : List ℕ} {now any : List ChainRow} {k : ℕ} → Found s v cs now (refused k) → Found s (and_then v (needing (length cs) room)) cs any (refused k)
+  unlisted f = found-refusal (ap (λ (w : Verdict). and_then w (needing (length cs) room)) (sym f.answered))
 
-    pub lists-all : {list' : List (List ℕ)} → n ≤ length list → list' ≡ laid accepted (records_from 0 (take n table)) list
-        → Delivered v (length cs) (object_rows cs) list list' (gives n)
-    lists-all h e =
-        delivers-all r.accepts (omega (arith, rows-count, record-count 0 cs)) rows-count (e ∙ ap (λ (l : List (List ℕ)). laid accepted l list) records)
+  module _ {s : List ℕ} {now : List ChainRow} (f : Found s v cs now accepted) where
+    listed-verdict : {t : Bool} → leb (length cs) room ≡ t → and_then v (needing (length cs) room) ≡ unless 34 t
+    listed-verdict e = (λ j. and_then (sym f.answered j) (unless 34 (e j)))
 
-  module _ {list : List (List ℕ)} {scratch : List ℕ} where
-    pub both-few : length list < n → Reassembled v cs list list scratch scratch (refuses 34)
-    both-few h = reassembles-few r.accepts (omega (arith, rows-count))
+    pub no_room : room < length now → Found s (and_then v (needing (length cs) room)) cs now (refused 34)
+    no_room h = found-refusal (listed-verdict (lt-leb (length cs) room (omega (arith, rows-count (f.found refl)))))
 
-    pub both-short : n ≤ length list → length scratch < need → Reassembled v cs list list scratch scratch (refuses 34)
-    both-short h q = reassembles-short r.accepts (omega (arith, rows-count)) (omega (arith, need-is))
+    pub with-room : length now ≤ room → Found s (and_then v (needing (length cs) room)) cs now accepted
+    with-room h =
+        record { answered = sym (listed-verdict (le-leb (length cs) room (omega (arith, rows-count (f.found refl))))); found = λ a. f.found refl }
 
-    pub both-all : {list' : List (List ℕ)} {scratch' : List ℕ} → n ≤ length list → need ≤ length scratch
-        → list' ≡ laid accepted (records_from 0 (take n table)) list → scratch' ≡ laid accepted (joined_rows s (take n table)) scratch
-        → Reassembled v cs list list' scratch scratch' (gives n)
-    both-all h q el es =
-        reassembles-all r.accepts (omega (arith, rows-count)) (omega (arith, need-is)) rows-count
-        (el ∙ ap (λ (l : List (List ℕ)). laid accepted l list) records) (es ∙ ap (λ (l : List ℕ). laid accepted l scratch) r.bytes)
+-- listing them
+module _ {A : Type 0} (made : ObjectRecord → A) (v : Verdict) (cs : List Chain) (list : List A) where
+  as-delivery : delivery v (map made (object_records cs)) list ≡ and_then v (needing (length cs) (length list))
+  as-delivery =
+      ap (λ (n : ℕ). and_then v (needing n (length list))) (length-map (object_records cs) made ∙ objects-count 0 cs)
+
+  module _ {s : List ℕ} {now : List ChainRow} where
+    pub lists-refusal : {k : ℕ} → Found s (and_then v (needing (length cs) (length list))) cs now (refused k)
+        → Delivered v (length cs) (map made (object_records cs)) list list (refuses k)
+    lists-refusal f = record { answered = rw (as-delivery, ← f.answered); written = rw (as-delivery, ← f.answered) }
+
+    module _ (f : Found s (and_then v (needing (length cs) (length list))) cs now accepted) where
+      pub fits-list : length now ≤ length list
+      fits-list = omega (arith, rows-count (f.found refl), room-for v cs (length list) (sym f.answered))
+
+      its-list : {list' : List A} → list' ≡ laid accepted (map made (records_from 0 now)) list → list' ≡ laid accepted (map made (object_records cs)) list
+      its-list e = e ∙ ap (λ (l : List ObjectRecord). laid accepted (map made l) list) (its-records (f.found refl))
+
+      pub lists-all : {list' : List A} → list' ≡ laid accepted (map made (records_from 0 now)) list
+          → Delivered v (length cs) (map made (object_records cs)) list list' (gives (length now))
+      lists-all e =
+          record {
+            answered = rw (as-delivery, ← f.answered) (ap gives (rows-count (f.found refl)));
+            written = rw (as-delivery, ← f.answered) (its-list e);
+          }
+
+-- and joining them
+module _ {A : Type 0} (made : ObjectRecord → A) (v : Verdict) (cs : List Chain) (list : List A) (scratch : List ℕ) where
+  as-reassembly : reassembly v cs list scratch
+      ≡ and_then (and_then v (needing (length cs) (length list))) (needing (length (joined_data cs)) (length scratch))
+  as-reassembly = go v
+    where
+      go : (w : Verdict) → reassembly w cs list scratch
+          ≡ and_then (and_then w (needing (length cs) (length list))) (needing (length (joined_data cs)) (length scratch))
+      go accepted = refl
+      go (refused k) = refl
+
+  reassembly-is : reassembly v cs list scratch ≡ accepted → {list' : List A} {scratch' : List ℕ} {n : ℕ}
+      → n ≡ length cs → list' ≡ laid accepted (map made (object_records cs)) list → scratch' ≡ laid accepted (joined_data cs) scratch
+      → Reassembled made v cs list list' scratch scratch' (gives n)
+  reassembly-is e en el es = record { answered = rw e (ap gives en); listed = rw e el; written = rw e es }
+
+  reassembly-refused : {k : ℕ} → reassembly v cs list scratch ≡ refused k → Reassembled made v cs list list scratch scratch (refuses k)
+  reassembly-refused e = record { answered = rw e; listed = rw e; written = rw e }
+
+  module _ {s : List ℕ} {now : List ChainRow} where
+    pub reassembles-refusal : {k : ℕ} → Found s (and_then v (needing (length cs) (length list))) cs now (refused k)
+        → Reassembled made v cs list list scratch scratch (refuses k)
+    reassembles-refusal f =
+        reassembly-refused (as-reassembly ∙ ap (λ (w : Verdict). and_then w (needing (length (joined_data cs)) (length scratch))) (sym f.answered))
+
+    module _ (f : Found s (and_then v (needing (length cs) (length list))) cs now accepted) where
+      joining-verdict : {t : Bool} → leb (length (joined_data cs)) (length scratch) ≡ t → reassembly v cs list scratch ≡ unless 34 t
+      joining-verdict e = as-reassembly ∙ (λ j. and_then (sym f.answered j) (unless 34 (e j)))
+
+      pub reassembles-short : length scratch < joined_in now → Reassembled made v cs list list scratch scratch (refuses 34)
+      reassembles-short h = reassembly-refused (joining-verdict (lt-leb _ _ (omega (arith, need-is (f.found refl)))))
+
+      pub reassembles-all : joined_in now ≤ length scratch → {list' : List A} {scratch' : List ℕ}
+          → list' ≡ laid accepted (map made (records_from 0 now)) list → scratch' ≡ laid accepted (joined_rows s now) scratch
+          → Reassembled made v cs list list' scratch scratch' (gives (length now))
+      reassembles-all h el es =
+          reassembly-is (joining-verdict (le-leb _ _ (omega (arith, need-is (f.found refl))))) (rows-count (f.found refl))
+          (its-list made v cs list f el) (es ∙ ap (λ (l : List ℕ). laid accepted l scratch) (f.found refl).bytes)
 
 -- the set is looked for before its objects
 set_first : (limit k : ℕ) (s : List ℕ) → objects_verdict_within limit k s ≡ and_then (set_verdict k s) (fragments_verdict limit (fragments_of (set_number k s)))
@@ -251,27 +280,33 @@ set_first limit k s = go (sets_verdict s)
     go accepted = refl
     go (refused n) = refl
 
+-- the fragments of a set that begins here are those from the place behind its PCS on
+pub begin-fragments : (s : List ℕ) {at : ℕ} → SetBegins s at → fragments_of (set_at s at) ≡ fragments_left s (at + used_by (drop at s))
+begin-fragments s {at} b =
+    ap fragments_of (set_here s b.standing b.more)
+    ∙ ap (λ (n : ℕ). fragments_from (at + n) (through_end (pieces_at s (at + used_by (drop at s)))))
+    (piece-length (drop at s) (outside-here s b.standing b.more))
+
 -- the set of a number, where its PCS stands
-module _ (s : List ℕ) (k : ℕ) {r : ℕ} (st : SetStands s k r) {h : SegmentHeader} (e : h ≡ header_fields (drop r s)) where
-  pub set-fragments : fragments_of (set_number k s) ≡ fragments_left s (r + (13 + h.segment_size))
-  set-fragments =
-      ap fragments_of (sym st.found ∙ set_here s st.standing st.more)
-      ∙ ap (λ (n : ℕ). fragments_from (r + n) (through_end (pieces_at s (r + used_by (drop r s))))) (piece-length (drop r s) (stands_here s k st))
-      ∙ ap (λ (n : ℕ). fragments_left s (r + n)) (sym (size-read (drop r s) e))
+module _ (s : List ℕ) (k : ℕ) {r : ℕ} (st : SetStands s k r) where
+  set-fragments : fragments_of (set_number k s) ≡ fragments_left s (r + used_by (drop r s))
+  set-fragments = ap fragments_of (sym st.found) ∙ begin-fragments s (stands-begins s k st)
 
   -- its objects are those found from there
-  pub set-objects : objects_of k s ≡ chains_of (fragments_left s (r + (13 + h.segment_size)))
+  set-objects : objects_of k s ≡ chains_of (fragments_left s (r + used_by (drop r s)))
   unfolding objects_of
   set-objects = ap chains_of set-fragments
 
-  pub set-verdict : (limit : ℕ) → set_verdict k s ≡ accepted
-      → objects_verdict_within limit k s ≡ fragments_verdict limit (fragments_left s (r + (13 + h.segment_size)))
-  set-verdict limit a =
-      set_first limit k s ∙ (λ j. and_then (a j) (fragments_verdict limit (set-fragments j)))
+  set-verdict : set_verdict k s ≡ accepted → objects_verdict k s ≡ fragments_verdict object_limit (fragments_left s (r + used_by (drop r s)))
+  set-verdict a =
+      set_first object_limit k s ∙ (λ j. and_then (a j) (fragments_verdict object_limit (set-fragments j)))
+
+  -- what finding the objects there answers is what it answers for the set
+  pub set-found : set_verdict k s ≡ accepted → {t : List ℕ} {from : ℕ} → t ≡ s → from ≡ r + used_by (drop r s) → {now : List ChainRow} {answer : Verdict}
+      → Found t (fragments_verdict object_limit (fragments_left t from)) (chains_of (fragments_left t from)) now answer
+      → Found s (objects_verdict k s) (objects_of k s) now answer
+  set-found a es ef {now} {answer} f = rw (set-verdict a, set-objects) (rw (es, ef) at f)
 
 -- there is no such set
-pub no-set : (limit k : ℕ) (s : List ℕ) {cs : List Chain} {table : List ChainRow} {n : ℕ} → set_verdict k s ≡ refused n
-    → Gathered s (objects_verdict_within limit k s) cs table (refuses n)
-no-set limit k s e =
-    gathered_none
-    (set_first limit k s ∙ ap (λ (v : Verdict). and_then v (fragments_verdict limit (fragments_of (set_number k s)))) e)
+pub no-set : (limit k : ℕ) (s : List ℕ) {n : ℕ} → set_verdict k s ≡ refused n → objects_verdict_within limit k s ≡ refused n
+no-set limit k s e = set_first limit k s ∙ ap (λ (v : Verdict). and_then v (fragments_verdict limit (fragments_of (set_number k s)))) e

@@ -1,196 +1,172 @@
--- How taking one more fragment into the table of chains ends. Assumes nothing.
+-- The first row with an id, and what a table says of it. Assumes nothing.
 use mathlib.Core.Path.{◌≡◌, refl, sym, ap, ◌∙◌}
 use mathlib.Core.Bool.{Bool, true, false}
-use mathlib.Core.List.{List, [], ◌∷◌, ◌++◌, map, append-nil}
-use Prim.Native.Nat.{ℕ, ◌+◌, ◌≤◌, ◌<◌}
+use mathlib.Core.List.{List, [], ◌∷◌, ◌++◌}
+use Prim.Native.Nat.{ℕ, zero, suc, ◌+◌, ◌≤◌, ◌<◌}
 use native.Mathlib.Omega.{arith}
 use native.Mathlib.Numerals.{add-one}
-use borrow.Author.Tests.{lt-ltb, le-ltb}
-use lib.ListN.{length, take, set, get_or, length-set, length-map}
+use borrow.Author.Tests.{eq-eqb, ne_eqb, le-ltb, lt-ltb}
+use lib.Dec.{eqb}
+use lib.ListN.{length, take, set, get_or}
 use lib.Seq.{take-suc-set, take-set-lt, length-take-le, get_or-take}
-use Rattle.pgs_base.specs.Outcome.{refused, gives, refuses, pick, unless}
-use Rattle.pgs_reassembly.proofs.ChainLaws.{no_row, chain-of, extend, chains-extended, chains-added, extend-none}
-use Rattle.pgs_reassembly.proofs.ChainLaws.{distinct-extended, distinct-added, state-found, state-unseen, grow}
-use Rattle.pgs_reassembly.proofs.ChainLaws.{rows_grown, total-append, total-at, total-set}
+use Rattle.std.specs.List.{AllWithin, HoldsAt}
+use Rattle.std.specs.Option.{MatchOption, option_map}
+use Rattle.std.specs.Prelude.{Option, None, Some}
+use Rattle.pgs_base.specs.Outcome.{Verdict, accepted, refused, unless, pick}
+use Rattle.pgs_base.proofs.Outcomes.{not-both}
 use Rattle.pgs_set.proofs.Choices.{pick_first, pick_second}
-use Rattle.pgs_reassembly.specs.Objects.{Fragment, Chain, ChainState, unseen, continuing, complete, id_of, closes_chain}
-use Rattle.pgs_reassembly.specs.Objects.{data_place, chains_of, state_of, fragment_verdict, first_verdict, next_verdict}
-use Rattle.pgs_reassembly.specs.Objects.{width_in, height_in}
-use Rattle.pgs_reassembly.specs.Tables.{fragment_numbers, chain_row, row_with, total, Holds, Grown, Took}
+use Rattle.pgs_reassembly.proofs.Lists.{no_row}
+use Rattle.pgs_reassembly.specs.Objects.{unseen, continuing, complete, first_verdict, next_verdict, object_limit}
+use Rattle.pgs_reassembly.specs.Tables.{is_closing, row_id, row_with, state_in, new_row, grown, extended, total, Leaves}
 use Rattle.pgs_reassembly.specs.declared.ChainRow.{ChainRow}
 use Rattle.pgs_reassembly.specs.declared.FragmentNumbers.{FragmentNumbers}
 
--- the row of a new chain
-abbrev pub new_row : FragmentNumbers → ChainRow
-new_row h =
-    record {
-      id = h.id;
-      version = h.version;
-      width = h.width;
-      height = h.height;
-      declared = h.declared;
-      closed = h.last;
-      copied = false;
-      place = h.place;
-      start = h.start;
-      len = h.len;
-    }
+-- what a search finds is that row
+module _ (id : ℕ) where
+  abbrev pub Has : ChainRow → Type 0
+  Has r = row_id r ≡ id
 
-row_new : (g : Fragment) → chain_row (chain-of g) ≡ new_row (fragment_numbers g)
-row_new g =
-    λ j.
-    record {
-      id = id_of g;
-      version = g.ods.object_version_number;
-      width = width_in g.ods.dimensions;
-      height = height_in g.ods.dimensions;
-      declared = g.ods.object_data_length;
-      closed = itself (closes_chain g) j;
-      copied = false;
-      place = g.place;
-      start = data_place g;
-      len = length (append-nil g.bytes j);
-    }
+  abbrev pub Lacks : ChainRow → Type 0
+  Lacks r = row_id r ≡ id → ⊥
+
+  first-none : (rows : List ChainRow) → AllWithin Lacks rows 0 (length rows) → None ≡ row_with id rows
+  first-none [] a = refl
+  first-none (r ∷ rs) a =
+      rw (ne_eqb (row_id r) id (a 0 r (omega arith) (omega arith)), ← first-none rs (λ k d l h. a (suc k) d (omega arith) (omega arith)))
+
+  first-some : (rows : List ChainRow) (i : ℕ) → i < length rows → HoldsAt Has rows i → AllWithin Lacks rows 0 i → Some i ≡ row_with id rows
+  first-some [] i h e a = absurd (omega arith)
+  first-some (r ∷ rs) zero h e a = rw (eq-eqb (row_id r) id (e r))
+  first-some (r ∷ rs) (suc i) h e a =
+      rw (ne_eqb (row_id r) id (a 0 r (omega arith) (omega arith)), ← first-some rs i (omega arith) e (λ k d l m. a (suc k) d (omega arith) (omega arith)))
+
+  pub first-row : (rows : List ChainRow) (r : Option ℕ)
+      → MatchOption r (AllWithin Lacks rows 0 (length rows)) (λ i. (i < length rows) × HoldsAt Has rows i × AllWithin Lacks rows 0 i)
+      → r ≡ row_with id rows
+  first-row rows None m = first-none rows m
+  first-row rows (Some i) m = first-some rows i m.0 m.1 m.2
+
+-- no row has the id
+pub unseen-in : (id : ℕ) (rows : List ChainRow) → None ≡ row_with id rows → state_in id rows ≡ unseen
+unseen-in id [] e = refl
+unseen-in id (r ∷ rs) e = go (eqb (row_id r) id) (row_with id rs) e (unseen-in id rs)
   where
-    itself : (b : Bool) → pick b true false ≡ b
-    itself true = refl
-    itself false = refl
+    go : (b : Bool) (o : Option ℕ) → None ≡ pick b (Some 0) (option_map suc o) → (None ≡ o → state_in id rs ≡ unseen)
+        → pick b (pick r.closed complete continuing) (state_in id rs) ≡ unseen
+    go true o q ih = cc
+    go false None q ih = ih refl
+    go false (Some k) q ih = cc
 
-map_snoc : (cs : List Chain) (c : Chain) → map chain_row (cs ++ (c ∷ [])) ≡ map chain_row cs ++ (chain_row c ∷ [])
-map_snoc [] c = refl
-map_snoc (b ∷ cs) c = ap (λ (l : List ChainRow). chain_row b ∷ l) (map_snoc cs c)
+-- row i is the first of a fragment's id: whether its chain is closed, and the rows after the fragment
+pub record Stands (f : FragmentNumbers) (i : ℕ) (rows : List ChainRow) : Type 0 where
+  pub inside : i < length rows
+  pub state : state_in f.ods.object_id rows ≡ pick (get_or rows i no_row).closed complete continuing
+  pub takes : set rows i (grown (get_or rows i no_row) f) ≡ extended f rows
 
-module _ (table : List ChainRow) (n : ℕ) (h : FragmentNumbers) where
-  took-refusal : (table' : List ChainRow) (k : ℕ)
-      → ((fs : List Fragment) (f : Fragment) → Holds fs table n → h ≡ fragment_numbers f → fragment_verdict (length table) (chains_of fs) f ≡ refused k)
-      → Took table table' n h (refuses k)
-  took-refusal table' k p =
-      record {
-        turned = λ fs f s e m q. p fs f s e ∙ (let r : k ≡ m = cc in ap refused r);
-        grew = λ fs f s e m q. absurd (let z : ◌≡◌ {A = ℕ} 0 1 = cc in omega arith);
-      }
+pub stands : (f : FragmentNumbers) (i : ℕ) (rows : List ChainRow) → Some i ≡ row_with f.ods.object_id rows → Stands f i rows
+stands f i [] e = cc
+stands f i (r ∷ rs) e = go (eqb (row_id r) f.ods.object_id) refl (row_with f.ods.object_id rs) refl e (λ (k : ℕ) (q : Some k ≡ row_with f.ods.object_id rs). stands f k rs q)
+  where
+    go : (b : Bool) → eqb (row_id r) f.ods.object_id ≡ b → (o : Option ℕ) → row_with f.ods.object_id rs ≡ o
+        → Some i ≡ pick b (Some 0) (option_map suc o)
+        → ((k : ℕ) → Some k ≡ row_with f.ods.object_id rs → Stands f k rs)
+        → Stands f i (r ∷ rs)
+    go true p o h q ih =
+        let first : i ≡ 0 = cc in
+        rw first (record { inside = omega arith; state = pick_first _ _ p; takes = sym (pick_first _ _ p) })
+    go false p None h q ih = cc
+    go false p (Some k) h q ih =
+        let next : i ≡ suc k = cc in
+        let later = ih k (sym h) in
+        rw next
+        (record {
+          inside = omega (arith, later.inside);
+          state = pick_second _ _ p ∙ later.state;
+          takes = ap (λ (l : List ChainRow). r ∷ l) later.takes ∙ sym (pick_second _ _ p);
+        })
 
-  took_more : (table' : List ChainRow) (n' : ℕ) → ((fs : List Fragment) (f : Fragment) → Holds fs table n → h ≡ fragment_numbers f → Grown fs f table table' n n')
-      → Took table table' n h (gives n')
-  took_more table' n' p =
-      record {
-        turned = λ fs f s e m q. absurd (let z : ◌≡◌ {A = ℕ} 0 1 = cc in omega arith);
-        grew = λ fs f s e m q. let r : n' ≡ m = cc in rw r at (p fs f s e);
-      }
+-- the length of one chain is within that of all
+pub total-at : (rows : List ChainRow) (i : ℕ) → i < length rows → (get_or rows i no_row).len ≤ total rows
+total-at [] i h = absurd (omega arith)
+total-at (r ∷ rs) zero h = omega arith
+total-at (r ∷ rs) (suc i) h = omega (arith, total-at rs i (omega arith))
 
-  module _ (i : ℕ) (at : i ≡ row_with h.id (take n table)) where
-    module _ (fs : List Fragment) (f : Fragment) (hs : Holds fs table n) (e : h ≡ fragment_numbers f) where
-      counted : n ≡ length (chains_of fs)
-      counted = sym (length-take-le n table hs.within) ∙ ap length hs.rows ∙ length-map (chains_of fs) chain_row
+-- a fragment is turned down
+pub leaves-refusal : {v : Verdict} {want now : List ChainRow} {k : ℕ} → v ≡ refused k → Leaves v want now (refused k)
+leaves-refusal e = record { answered = sym e; left = λ a. absurd (not-both a refl) }
 
-      index : i ≡ row_with (id_of f) (map chain_row (chains_of fs))
-      index = at ∙ (λ j. row_with (e j).id (hs.rows j))
+-- a table as it is stored: the first n of its places hold rows
+module _ (f : FragmentNumbers) (places : List ChainRow) (n : ℕ) (k : n ≤ length places) {now : List ChainRow} (v : take n places ≡ now) where
+  pub counted : length now ≡ n
+  counted = ap length (sym v) ∙ length-take-le n places k
 
-      found : i < n → state_of (id_of f) (chains_of fs) ≡ pick (get_or table i no_row).closed complete continuing
-      found m =
-          state-found (id_of f) (chains_of fs) (omega (arith, index, counted))
-          ∙ (λ j. pick (get_or (sym hs.rows j) (sym index j) no_row).closed complete continuing)
-          ∙ ap (λ (r : ChainRow). pick r.closed complete continuing) (get_or-take n table i no_row m)
+  -- the id is known: row i is its first
+  module _ {i : ℕ} (w : Some i ≡ row_with f.ods.object_id now) where
+    pub known-inside : i < n
+    known-inside = omega (arith, counted, (stands f i now w).inside)
 
-      lost : n ≤ i → state_of (id_of f) (chains_of fs) ≡ unseen
-      lost m = state-unseen (id_of f) (chains_of fs) (omega (arith, index, counted))
+    same : get_or places i no_row ≡ get_or now i no_row
+    same = sym (get_or-take n places i no_row known-inside) ∙ ap (λ (l : List ChainRow). get_or l i no_row) v
 
-      as_first : h.first ≡ true → {t : ChainState} → state_of (id_of f) (chains_of fs) ≡ t
-          → fragment_verdict (length table) (chains_of fs) f ≡ first_verdict (length table) (length (chains_of fs)) t
-      as_first q r =
-          pick_first _ _ (sym (ap (λ (x : FragmentNumbers). x.first) e) ∙ q) ∙ ap (first_verdict (length table) (length (chains_of fs))) r
+    its-state : {b : Bool} → (get_or places i no_row).closed ≡ b → state_in f.ods.object_id now ≡ pick b complete continuing
+    its-state e =
+        (stands f i now w).state ∙ ap (λ (t : Bool). pick t complete continuing) (ap (λ (r : ChainRow). r.closed) (sym same) ∙ e)
 
-      as-next : h.first ≡ false → {t : ChainState} → state_of (id_of f) (chains_of fs) ≡ t
-          → fragment_verdict (length table) (chains_of fs) f ≡ next_verdict t
-      as-next q r = pick_second _ _ (sym (ap (λ (x : FragmentNumbers). x.first) e) ∙ q) ∙ ap next_verdict r
+    -- a first fragment of a known id
+    pub opened-closed : {want : List ChainRow} → (get_or places i no_row).closed ≡ true
+        → Leaves (first_verdict object_limit (length now) (state_in f.ods.object_id now)) want now (refused 17)
+    opened-closed e = leaves-refusal (ap (first_verdict object_limit (length now)) (its-state e))
 
-    -- a first fragment
-    module _ (q : h.first ≡ true) where
-      pub opened-open : (table' : List ChainRow) → i < n → (get_or table i no_row).closed ≡ false → Took table table' n h (refuses 16)
-      opened-open table' m r =
-          took-refusal table' 16 (λ fs f hs e. as_first fs f hs e q (found fs f hs e m ∙ pick_second _ _ r))
-
-      pub opened-closed : (table' : List ChainRow) → i < n → (get_or table i no_row).closed ≡ true → Took table table' n h (refuses 17)
-      opened-closed table' m r =
-          took-refusal table' 17 (λ fs f hs e. as_first fs f hs e q (found fs f hs e m ∙ pick_first _ _ r))
-
-      pub opened-full : (table' : List ChainRow) → n ≤ i → length table ≤ n → Took table table' n h (refuses 23)
-      opened-full table' m r =
-          took-refusal table' 23
-          (λ fs f hs e. as_first fs f hs e q (lost fs f hs e m) ∙ ap (unless 23) (le-ltb (length (chains_of fs)) (length table) (omega (arith, counted fs f hs e))))
-
-      pub opened-new : n ≤ i → n < length table → Took table (set table n (new_row h)) n h (gives (n + 1))
-      opened-new m r = took_more (set table n (new_row h)) (n + 1) grown
-        where
-          grown : (fs : List Fragment) (f : Fragment) → Holds fs table n → h ≡ fragment_numbers f → Grown fs f table (set table n (new_row h)) n (n + 1)
-          grown fs f hs e =
-              record {
-                accepts = as_first fs f hs e q none ∙ ap (unless 23) (lt-ltb (length (chains_of fs)) (length table) (omega (arith, counted fs f hs e)));
-                holds =
-                    record {
-                      within = rw length-set (omega arith);
-                      rows = taken ∙ (λ j. hs.rows j ++ (sym (row_new f ∙ ap new_row (sym e)) j ∷ [])) ∙ sym (ap (map chain_row) all ∙ map_snoc (chains_of fs) (chain-of f));
-                      distinct = rw all (distinct-added f (chains_of fs) hs.distinct none);
-                    };
-                more = omega (arith, ap total taken, total-append (take n table) (new_row h), ap (λ (x : FragmentNumbers). x.len) e);
-              }
-            where
-              none : state_of (id_of f) (chains_of fs) ≡ unseen
-              none = lost fs f hs e m
-
-              taken : take (n + 1) (set table n (new_row h)) ≡ take n table ++ (new_row h ∷ [])
-              taken = ap (λ (k : ℕ). take k (set table n (new_row h))) (add-one n) ∙ take-suc-set table n (new_row h) r
-
-              all : chains_of (fs ++ (f ∷ [])) ≡ chains_of fs ++ (chain-of f ∷ [])
-              all =
-                  chains-added fs f (sym (ap (λ (x : FragmentNumbers). x.first) e) ∙ q)
-                  ∙ ap (λ (l : List Chain). l ++ (chain-of f ∷ [])) (extend-none f (chains_of fs) none)
+    pub opened-open : {want : List ChainRow} → (get_or places i no_row).closed ≡ false
+        → Leaves (first_verdict object_limit (length now) (state_in f.ods.object_id now)) want now (refused 16)
+    opened-open e = leaves-refusal (ap (first_verdict object_limit (length now)) (its-state e))
 
     -- a continuation
-    module _ (q : h.first ≡ false) where
-      pub continued-none : (table' : List ChainRow) → n ≤ i → Took table table' n h (refuses 18)
-      continued-none table' m = took-refusal table' 18 (λ fs f hs e. as-next fs f hs e q (lost fs f hs e m))
+    pub continued-closed : {want : List ChainRow} → (get_or places i no_row).closed ≡ true
+        → Leaves (next_verdict (state_in f.ods.object_id now)) want now (refused 19)
+    continued-closed e = leaves-refusal (ap next_verdict (its-state e))
 
-      pub continued-closed : (table' : List ChainRow) → i < n → (get_or table i no_row).closed ≡ true → Took table table' n h (refuses 19)
-      continued-closed table' m r =
-          took-refusal table' 19 (λ fs f hs e. as-next fs f hs e q (found fs f hs e m ∙ pick_first _ _ r))
+    pub continued-fits : (get_or places i no_row).len ≤ total now
+    continued-fits =
+        omega (arith, ap (λ (r : ChainRow). r.len) same, total-at now i (stands f i now w).inside)
 
-      -- the length of the chain fits
-      pub continued-fits : n ≤ length table → i < n → (get_or table i no_row).len ≤ total (take n table)
-      continued-fits k m = rw (get_or-take n table i no_row m) at (total-at (take n table) i (rw (length-take-le n table k) m))
+    pub continued-on : (get_or places i no_row).closed ≡ false → {b : Bool} → b ≡ is_closing f
+        → Leaves (next_verdict (state_in f.ods.object_id now)) (extended f now)
+        (take n
+        (set places i (record { first = (get_or places i no_row).first; closed = b; copied = true; len = (get_or places i no_row).len + f.len })))
+        accepted
+    continued-on e {b} eb =
+        record {
+          answered = sym (ap next_verdict (its-state e));
+          left = λ _.
+              take-set-lt n places i _ known-inside
+              ∙ (λ j.
+              set (v j) i (record { first = (same j).first; closed = eb j; copied = true; len = (same j).len + f.len }))
+              ∙ (stands f i now w).takes;
+        }
 
-      pub continued-on : n ≤ length table → i < n → (get_or table i no_row).closed ≡ false → Took table (set table i (grow (get_or table i no_row) h)) n h (gives n)
-      continued-on k m z = took_more (set table i (grow (get_or table i no_row) h)) n grown
-        where
-          grown : (fs : List Fragment) (f : Fragment) → Holds fs table n → h ≡ fragment_numbers f → Grown fs f table (set table i (grow (get_or table i no_row) h)) n n
-          grown fs f hs e =
-              record {
-                accepts = as-next fs f hs e q open-here;
-                holds = record {
-                  within = rw length-set hs.within;
-                  rows = taken
-                      ∙ (λ j. set (hs.rows j) (index fs f hs e j) (grow (row j) (e j)))
-                      ∙ sym (rows_grown f (chains_of fs) hs.distinct open-here)
-                      ∙ sym (ap (map chain_row) all);
-                  distinct = rw all (distinct-extended f (chains_of fs) hs.distinct);
-                };
-                more = omega (
-                  arith,
-                  ap total taken,
-                  total-set (take n table) i h.len (grow (get_or table i no_row) h) (rw (length-take-le n table k) m)
-                      (ap (λ (x : ChainRow). x.len + h.len) (sym (get_or-take n table i no_row m))),
-                  ap (λ (x : FragmentNumbers). x.len) e,
-                );
-              }
-            where
-              open-here : state_of (id_of f) (chains_of fs) ≡ continuing
-              open-here = found fs f hs e m ∙ pick_second _ _ z
+  -- the id is not known
+  module _ (w : None ≡ row_with f.ods.object_id now) where
+    pub opened-full : {want : List ChainRow} → n ≡ 64 → Leaves (first_verdict object_limit (length now) (state_in f.ods.object_id now)) want now (refused 23)
+    opened-full e =
+        leaves-refusal
+        (ap (first_verdict object_limit (length now)) (unseen-in f.ods.object_id now w)
+        ∙ ap (unless 23) (le-ltb (length now) 64 (omega (arith, counted))))
 
-              taken : take n (set table i (grow (get_or table i no_row) h)) ≡ set (take n table) i (grow (get_or table i no_row) h)
-              taken = take-set-lt n table i (grow (get_or table i no_row) h) m
+    pub opened-new : n < 64 → n < length places → {b : Bool} → b ≡ is_closing f
+        → Leaves (first_verdict object_limit (length now) (state_in f.ods.object_id now)) (now ++ (new_row f ∷ []))
+        (take (n + 1) (set places n (record { first = f; closed = b; copied = false; len = f.len })))
+        accepted
+    opened-new h m {b} eb =
+        record {
+          answered = sym
+              (ap (first_verdict object_limit (length now)) (unseen-in f.ods.object_id now w)
+              ∙ ap (unless 23) (lt-ltb (length now) 64 (omega (arith, counted))));
+          left = λ _.
+              ap (λ (k : ℕ). take k (set places n (record { first = f; closed = b; copied = false; len = f.len }))) (add-one n)
+              ∙ take-suc-set places n (record { first = f; closed = b; copied = false; len = f.len }) m
+              ∙ (λ j. v j ++ (record { first = f; closed = eb j; copied = false; len = f.len } ∷ []));
+        }
 
-              row : get_or table i no_row ≡ get_or (map chain_row (chains_of fs)) (row_with (id_of f) (map chain_row (chains_of fs))) no_row
-              row = sym (get_or-take n table i no_row m) ∙ (λ j. get_or (hs.rows j) (index fs f hs e j) no_row)
-
-              all : chains_of (fs ++ (f ∷ [])) ≡ map (extend f) (chains_of fs)
-              all = chains-extended fs f (sym (ap (λ (x : FragmentNumbers). x.first) e) ∙ q)
+    pub continued-none : {want : List ChainRow} → Leaves (next_verdict (state_in f.ods.object_id now)) want now (refused 18)
+    continued-none = leaves-refusal (ap next_verdict (unseen-in f.ods.object_id now w))

@@ -3,10 +3,10 @@
 use mathlib.Core.Path.{◌≡◌, refl, sym, ap, subst, ◌∙◌}
 use mathlib.Core.Bool.{Bool, true, false}
 use mathlib.Core.List.{List, [], ◌∷◌, ◌++◌, map, append-nil, append_assoc}
-use Prim.Native.Nat.{ℕ, zero, suc, ◌+◌, ◌-◌, ◌≤◌, ◌<◌}
+use Prim.Native.Nat.{ℕ, zero, suc, ◌+◌, ◌-◌, ◌≤◌}
 use native.Mathlib.Omega.{arith}
-use borrow.Author.Tests.{le-leb, lt-leb, eq-eqb, ne_eqb}
-use lib.Dec.{leb, eqb}
+use borrow.Author.Tests.{le-leb, eq-eqb, ne_eqb}
+use lib.Dec.{eqb}
 use lib.ListN.{length, take, drop, get_or, length-append}
 use lib.Seq.{take_at, drop-append_seam, take-append_seam}
 use Rattle.pgs_base.specs.Outcome.{Verdict, accepted, gives, laid, pick}
@@ -18,18 +18,15 @@ use Rattle.pgs_reassembly.proofs.ListingLaws.{record-count}
 use Rattle.pgs_reassembly.proofs.ObjectLaws.{Begins, AllBegin, all-begin, piece-here}
 use Rattle.pgs_reassembly.specs.Objects.{Fragment, Chain, fragment_at, fragments_from, fragments_of, chains_of, joined, data_of, data_place, objects_of}
 use Rattle.pgs_set.specs.Sets.{no_set, is_pcs, through_end, sets_from, sets_of}
-use Rattle.pgs_reassembly.specs.Reassembly.{any_more, copied, copied_data, joined_data, rows_from, object_rows, reassembly, Reassembled, part_of, shown_by}
+use Rattle.pgs_reassembly.specs.Reassembly.{any_more, copied, copied_data, joined_data, object_records}
+use Rattle.pgs_reassembly.specs.Reassembly.{object_records_from, row_of, object_rows, reassembly, Reassembled, part_of}
+use Rattle.pgs_reassembly.specs.Reassembly.{record_data, shown_by}
+use Rattle.pgs_reassembly.specs.declared.ObjectRecord.{ObjectRecord}
 use Rattle.pgs_set.specs.Walks.{pieces_at}
 
 -- how a part is taken
 
 module _ (at n : ℕ) (l : List ℕ) where
-  pub part-past : length l < at → [] ≡ part_of at n l
-  part-past h = sym (pick_second (pick (leb n (length l - at)) (take n (drop at l)) []) [] (lt-leb at (length l) h))
-
-  pub part-long : at ≤ length l → length l - at < n → [] ≡ part_of at n l
-  part-long h q = sym (pick_first _ [] (le-leb at (length l) h) ∙ pick_second (take n (drop at l)) [] (lt-leb n (length l - at) q))
-
   part-within : at ≤ length l → n ≤ length l - at → part_of at n l ≡ take n (drop at l)
   part-within h q = pick_first _ [] (le-leb at (length l) h) ∙ pick_first (take n (drop at l)) [] (le-leb n (length l - at) q)
 
@@ -77,13 +74,14 @@ module _ (s : List ℕ) where
 
   -- the records of chains show their data, with the copied data in a list behind what was placed before
   shown-from : (cs : List Chain) → AllBegin s cs → (front rest : List ℕ)
-      → map (shown_by s (front ++ (joined_data cs ++ rest))) (rows_from (length front) cs) ≡ map data_of cs
+      → map (record_data s (front ++ (joined_data cs ++ rest))) (object_records_from (length front) cs) ≡ map data_of cs
   shown-from [] a front rest = refl
   shown-from (c ∷ cs) a front rest = λ j. this (copied c) refl j ∷ (others ∙ shown-from cs a.1 (front ++ copied_data c) rest) j
     where
       this : (b : Bool) → copied c ≡ b
-          → pick (eqb (pick b 1 0) 0) (part_of (pick b (length front) (data_place c.first)) (length (data_of c)) s)
-          (pick (eqb (pick b 1 0) 1) (part_of (pick b (length front) (data_place c.first)) (length (data_of c)) (front ++ ((pick b (data_of c) [] ++ joined_data cs) ++ rest))) [])
+          → pick b
+          (part_of (pick b (length front) (data_place c.first)) (length (data_of c)) (front ++ ((pick b (data_of c) [] ++ joined_data cs) ++ rest)))
+          (part_of (pick b (length front) (data_place c.first)) (length (data_of c)) s)
           ≡ data_of c
       this true e =
           ap (λ (l : List ℕ). part_of (length front) (length (data_of c)) (front ++ l))
@@ -94,9 +92,9 @@ module _ (s : List ℕ) where
       moved : front ++ ((copied_data c ++ joined_data cs) ++ rest) ≡ (front ++ copied_data c) ++ (joined_data cs ++ rest)
       moved = ap (λ (l : List ℕ). front ++ l) (append_assoc (copied_data c) (joined_data cs) rest) ∙ sym (append_assoc front (copied_data c) (joined_data cs ++ rest))
 
-      others : map (shown_by s (front ++ ((copied_data c ++ joined_data cs) ++ rest))) (rows_from (length front + length (copied_data c)) cs)
-          ≡ map (shown_by s ((front ++ copied_data c) ++ (joined_data cs ++ rest))) (rows_from (length (front ++ copied_data c)) cs)
-      others = λ j. map (shown_by s (moved j)) (rows_from (sym (length-append front (copied_data c)) j) cs)
+      others : map (record_data s (front ++ ((copied_data c ++ joined_data cs) ++ rest))) (object_records_from (length front + length (copied_data c)) cs)
+          ≡ map (record_data s ((front ++ copied_data c) ++ (joined_data cs ++ rest))) (object_records_from (length (front ++ copied_data c)) cs)
+      others = λ j. map (record_data s (moved j)) (object_records_from (sym (length-append front (copied_data c)) j) cs)
 
   -- every set's chains begin where they say
   sets-begin : (xs : List (List ℕ)) (at k : ℕ) → pieces_at s at ≡ xs → AllBegin s (chains_of (fragments_of (get_or (sets_from at xs) k no_set)))
@@ -122,12 +120,30 @@ unfolding objects_of sets_of
 objects-begin k s = sets-begin s (pieces_at s 0) 0 k refl
 
 -- the records of a set's objects show their data, in the stream and in a scratch that begins with the joined data
+pub record-data : (k : ℕ) (s rest : List ℕ)
+    → map (record_data s (joined_data (objects_of k s) ++ rest)) (object_records (objects_of k s)) ≡ map data_of (objects_of k s)
+record-data k s rest = shown-from s (objects_of k s) (objects-begin k s) [] rest
+
+-- a row shows what its record does
+pub row-data : (s x : List ℕ) (r : ObjectRecord) → shown_by s x (row_of r) ≡ record_data s x r
+row-data s x r = go r.copied
+  where
+    go : (b : Bool)
+        → pick (eqb (pick b 1 0) 0) (part_of r.place r.len s) (pick (eqb (pick b 1 0) 1) (part_of r.place r.len x) [])
+        ≡ pick b (part_of r.place r.len x) (part_of r.place r.len s)
+    go true = refl
+    go false = refl
+
+pub rows-data : (s x : List ℕ) (rs : List ObjectRecord) → map (shown_by s x) (map row_of rs) ≡ map (record_data s x) rs
+rows-data s x [] = refl
+rows-data s x (r ∷ rs) = λ j. row-data s x r j ∷ rows-data s x rs j
+
 pub shown-data : (k : ℕ) (s rest : List ℕ) → map (shown_by s (joined_data (objects_of k s) ++ rest)) (object_rows (objects_of k s)) ≡ map data_of (objects_of k s)
-shown-data k s rest = shown-from s (objects_of k s) (objects-begin k s) [] rest
+shown-data k s rest = rows-data s (joined_data (objects_of k s) ++ rest) (object_records (objects_of k s)) ∙ record-data k s rest
 
 -- so after an accepted call
 pub shown-after : (k : ℕ) (s : List ℕ) (v : Verdict) {list list' : List (List ℕ)} {scratch scratch' : List ℕ} {n : ℕ}
-    → Reassembled v (objects_of k s) list list' scratch scratch' (gives n) → map (shown_by s scratch') (take n list') ≡ map data_of (objects_of k s)
+    → Reassembled row_of v (objects_of k s) list list' scratch scratch' (gives n) → map (shown_by s scratch') (take n list') ≡ map data_of (objects_of k s)
 shown-after k s v {list} {list'} {scratch} {scratch'} {n} r =
     (λ j. map (shown_by s (new-scratch j)) (new-list j)) ∙ shown-data k s (drop (length (joined_data (objects_of k s))) scratch)
   where

@@ -8,7 +8,7 @@ use Rattle.pgs_ods.specs.OdsBody.{head_size, ods_of, ods_data}
 use Rattle.pgs_segment.specs.OneSegment.{segment_type, body_at}
 use Rattle.pgs_views.specs.declared.segment_type.SegmentType.{SegmentType}
 use Rattle.pgs_views.specs.declared.segment_type.SegmentType.TheVariants.{Pds, Ods, Pcs, Wds, End, Other}
-use Rattle.pgs_ods.specs.declared.ods.Dimensions.{Dimensions}
+use Rattle.pgs_base.specs.declared.dimensions.Dimensions.{Dimensions}
 use Rattle.pgs_ods.specs.declared.ods.Ods as declared-ods
 use Rattle.pgs_set.specs.Sets.{DisplaySet, sets_of, set_number, set_count, sets_verdict}
 

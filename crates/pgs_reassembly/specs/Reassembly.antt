@@ -2,9 +2,10 @@
 -- chains of two or more are joined one after another in first-seen order from the scratch's start, and J is their total length.
 -- Each copied chain is written to its own part of the scratch. An object's joined data is shown as a part of the stream or of the
 -- scratch, whichever holds it. Object records (id, version, width, height, holder, place, length) fill a caller's list."
-use Rattle.std.specs.Prelude.{ℕ, ◌+◌, ◌-◌, ◌≡◌, Bool, true, false, List, [], ◌∷◌, ◌++◌, leb, eqb, length, take, drop, get_or}
+use Rattle.std.specs.Prelude.{ℕ, ◌+◌, ◌-◌, ◌≡◌, Bool, true, false, List, [], ◌∷◌, ◌++◌, map, leb, eqb, length, take, drop, get_or}
 use Rattle.pgs_base.specs.Outcome.{Verdict, Outcome, outcome_of, and_then, needing, laid, pick}
 use Rattle.pgs_reassembly.specs.Objects.{Fragment, Chain, object_id, version_of, width_of, height_of, data_of, data_place}
+use Rattle.pgs_reassembly.specs.declared.ObjectRecord.{ObjectRecord}
 
 abbrev pub any_more : List Fragment → Bool
 any_more [] = false
@@ -23,43 +24,67 @@ abbrev pub joined_data : List Chain → List ℕ
 joined_data [] = []
 joined_data (c ∷ cs) = copied_data c ++ joined_data cs
 
--- the record of an object whose data, if it is copied, stands at place `at` of the scratch. The holder is 0 for the stream and 1 for
--- the scratch
-abbrev pub object_row : ℕ → Chain → List ℕ
-object_row at c =
-    object_id c
-    ∷ version_of c
-    ∷ width_of c
-    ∷ height_of c
-    ∷ pick (copied c) 1 0
-    ∷ pick (copied c) at (data_place c.first)
-    ∷ length (data_of c)
-    ∷ []
+-- the record of an object whose data, if it is copied, stands at place `at` of the scratch
+abbrev pub object_record : ℕ → Chain → ObjectRecord
+object_record at c =
+    record {
+      id = object_id c;
+      version = version_of c;
+      width = width_of c;
+      height = height_of c;
+      copied = copied c;
+      place = pick (copied c) at (data_place c.first);
+      len = length (data_of c);
+    }
 
-abbrev pub rows_from : ℕ → List Chain → List (List ℕ)
-rows_from at [] = []
-rows_from at (c ∷ cs) = object_row at c ∷ rows_from (at + length (copied_data c)) cs
+-- how many bytes of the scratch the data of a record takes
+abbrev pub record_joined : ObjectRecord → ℕ
+record_joined r = pick r.copied r.len 0
+
+-- a record as a row of a caller's list. The holder is 0 for the stream and 1 for the scratch
+abbrev pub row_of : ObjectRecord → List ℕ
+row_of r = r.id ∷ r.version ∷ r.width ∷ r.height ∷ pick r.copied 1 0 ∷ r.place ∷ r.len ∷ []
+
+abbrev pub object_row : ℕ → Chain → List ℕ
+object_row at c = row_of (object_record at c)
+
+-- the records of objects, whose copied data stands in the scratch from a place on
+abbrev pub object_records_from : ℕ → List Chain → List ObjectRecord
+object_records_from at [] = []
+object_records_from at (c ∷ cs) = object_record at c ∷ object_records_from (at + length (copied_data c)) cs
 
 -- the records of objects, whose copied data stands from the scratch's start on
+abbrev pub object_records : List Chain → List ObjectRecord
+object_records cs = object_records_from 0 cs
+
+-- as rows of a caller's list
+abbrev pub rows_from : ℕ → List Chain → List (List ℕ)
+rows_from at cs = map row_of (object_records_from at cs)
+
 abbrev pub object_rows : List Chain → List (List ℕ)
-object_rows cs = rows_from 0 cs
+object_rows cs = map row_of (object_records cs)
 
 -- the verdict of a call that lists and joins these objects. "Needs: one record per .. object ..; J for objects"
-abbrev pub reassembly : Verdict → List Chain → List (List ℕ) → List ℕ → Verdict
+abbrev pub reassembly : {A : Type 0} → Verdict → List Chain → List A → List ℕ → Verdict
 reassembly verdict cs list scratch =
     and_then verdict (and_then (needing (length cs) (length list)) (needing (length (joined_data cs)) (length scratch)))
 
--- what such a call promises
-pub record Reassembled (verdict : Verdict) (cs : List Chain) (list list' : List (List ℕ)) (scratch scratch' : List ℕ) (answer : Outcome ℕ) : Type 0 where
+-- what such a call promises, where `made` makes a caller's record of an object's
+pub record Reassembled {A : Type 0} (made : ObjectRecord → A) (verdict : Verdict) (cs : List Chain) (list list' : List A)
+    (scratch scratch' : List ℕ) (answer : Outcome ℕ) : Type 0 where
   pub answered : answer ≡ outcome_of (reassembly verdict cs list scratch) (length cs)
-  pub listed : list' ≡ laid (reassembly verdict cs list scratch) (object_rows cs) list
+  pub listed : list' ≡ laid (reassembly verdict cs list scratch) (map made (object_records cs)) list
   pub written : scratch' ≡ laid (reassembly verdict cs list scratch) (joined_data cs) scratch
 
 -- the part of a list from a place, of a length; empty where it would pass the end
 abbrev pub part_of : ℕ → ℕ → List ℕ → List ℕ
 part_of at n l = pick (leb at (length l)) (pick (leb n (length l - at)) (take n (drop at l)) []) []
 
--- the data that a record shows: of the stream where its holder is 0, of the scratch where it is 1. That this is the object's data,
+-- the data that a record shows, of the scratch where it is copied, else of the stream
+abbrev pub record_data : List ℕ → List ℕ → ObjectRecord → List ℕ
+record_data stream scratch r = pick r.copied (part_of r.place r.len scratch) (part_of r.place r.len stream)
+
+-- the same of a row: of the stream where its holder is 0, of the scratch where it is 1. That this is the object's data,
 -- for the records and the scratch that an accepted call leaves, is the law `shown-after` of proofs/ViewLaws.antt
 abbrev pub shown_by : List ℕ → List ℕ → List ℕ → List ℕ
 shown_by stream scratch r =

@@ -1,97 +1,109 @@
 -- The table of chains that finding objects keeps: a row for each chain, in first-seen order. Private contracts of
 -- `pgs_object` cite this; those of its public functions cite `Objects` and `Reassembly`.
-use Rattle.std.specs.Prelude.{ℕ, suc, ◌+◌, ◌-◌, ◌≤◌, ◌≡◌, List, [], ◌∷◌, ◌++◌, map, leb, eqb, length, take}
-use Rattle.pgs_base.specs.Outcome.{Verdict, accepted, refused, Outcome, gives, refuses, and_then, unless, pick}
-use Rattle.pgs_reassembly.specs.Objects.{Fragment, fragments_from, Chain, unseen, id_of, opens_chain, closes_chain}
-use Rattle.pgs_reassembly.specs.Objects.{data_place, width_in, height_in, object_id, version_of, width_of, height_of}
-use Rattle.pgs_reassembly.specs.Objects.{declared_length, ended, data_of, state_of, chains_of, fragment_verdict}
-use Rattle.pgs_reassembly.specs.Objects.{verdict_after, joined, with_id}
+use Rattle.std.specs.Prelude.{ℕ, suc, ◌+◌, ◌-◌, ◌≤◌, ◌≡◌, Bool, true, false, List, [], ◌∷◌, ◌++◌, map, leb, eqb, length, drop}
+use Rattle.std.specs.Prelude.{Option, None, Some}
+use Rattle.std.specs.Option.{option_map}
+use Rattle.pgs_base.specs.Outcome.{Verdict, accepted, and_then, unless, pick}
+use Rattle.pgs_views.specs.Kinds.{type_of}
+use Rattle.pgs_views.specs.Fragments.{fragment_of, is_first, is_last}
+use Rattle.pgs_reassembly.specs.Objects.{Fragment, is_ods, fragment_at, fragments_from, Chain, ChainState, unseen, continuing, complete}
+use Rattle.pgs_reassembly.specs.Objects.{data_place, width_in, height_in, ended, data_of, first_verdict, next_verdict, object_limit}
+use Rattle.pgs_reassembly.specs.Objects.{joined, with_id}
 use Rattle.pgs_reassembly.specs.Reassembly.{copied, joined_data}
 use Rattle.pgs_set.specs.Sets.{through_end}
-use Rattle.pgs_set.specs.Walks.{pieces_at}
+use Rattle.pgs_set.specs.Walks.{pieces_at, InSet}
+use Rattle.pgs_stream.specs.declared.segments.PlacedSegment.{PlacedSegment}
 use Rattle.pgs_reassembly.specs.declared.ChainRow.{ChainRow}
 use Rattle.pgs_reassembly.specs.declared.FragmentNumbers.{FragmentNumbers}
+use Rattle.pgs_reassembly.specs.declared.ObjectRecord.{ObjectRecord}
 
 -- the fragments from a place on in the set that is open there
 abbrev pub fragments_left : List ℕ → ℕ → List Fragment
 fragments_left s at = fragments_from at (through_end (pieces_at s at))
 
+-- the fragment in a segment of a stream, and those in several segments
+abbrev pub fragment_in : List ℕ → PlacedSegment → Fragment
+fragment_in s x = fragment_at x.at (drop x.at s)
+
+abbrev pub holds_fragment : PlacedSegment → Bool
+holds_fragment x = is_ods (type_of x.header.segment_type)
+
+abbrev pub fragments_in : List ℕ → List PlacedSegment → List Fragment
+fragments_in s [] = []
+fragments_in s (x ∷ xs) = pick (holds_fragment x) (fragment_in s x ∷ fragments_in s xs) (fragments_in s xs)
+
 -- the numbers of a fragment
 abbrev pub fragment_numbers : Fragment → FragmentNumbers
-fragment_numbers f =
-    record {
-      id = id_of f;
-      version = f.ods.object_version_number;
-      width = width_in f.ods.dimensions;
-      height = height_in f.ods.dimensions;
-      declared = f.ods.object_data_length;
-      first = opens_chain f;
-      last = closes_chain f;
-      place = f.place;
-      start = data_place f;
-      len = length f.bytes;
-    }
+fragment_numbers f = record { place = f.place; ods = f.ods; start = data_place f; len = length f.bytes }
+
+-- whether a fragment with these numbers is a first one, and whether it is a last one
+abbrev pub is_opening : FragmentNumbers → Bool
+is_opening f = is_first (fragment_of f.ods.last_in_sequence_flag)
+
+abbrev pub is_closing : FragmentNumbers → Bool
+is_closing f = is_last (fragment_of f.ods.last_in_sequence_flag)
 
 -- the row of a chain
 abbrev pub chain_row : Chain → ChainRow
-chain_row c =
-    record {
-      id = object_id c;
-      version = version_of c;
-      width = width_of c;
-      height = height_of c;
-      declared = declared_length c;
-      closed = ended c;
-      copied = copied c;
-      place = c.first.place;
-      start = data_place c.first;
-      len = length (data_of c);
-    }
+chain_row c = record { first = fragment_numbers c.first; closed = ended c; copied = copied c; len = length (data_of c) }
 
--- the number of the first row with this id, or of rows where there is none
-abbrev pub row_with : ℕ → List ChainRow → ℕ
-row_with id [] = 0
-row_with id (r ∷ rs) = pick (eqb r.id id) 0 (suc (row_with id rs))
+abbrev pub row_id : ChainRow → ℕ
+row_id r = r.first.ods.object_id
+
+-- the number of the first row with this id
+abbrev pub row_with : ℕ → List ChainRow → Option ℕ
+row_with id [] = None
+row_with id (r ∷ rs) = pick (eqb (row_id r) id) (Some 0) (option_map suc (row_with id rs))
+
+-- what rows say of an id
+abbrev pub state_in : ℕ → List ChainRow → ChainState
+state_in id [] = unseen
+state_in id (r ∷ rs) = pick (eqb (row_id r) id) (pick r.closed complete continuing) (state_in id rs)
+
+-- the row of a new chain, and that of a chain which takes a continuation
+abbrev pub new_row : FragmentNumbers → ChainRow
+new_row f = record { first = f; closed = is_closing f; copied = false; len = f.len }
+
+abbrev pub grown : ChainRow → FragmentNumbers → ChainRow
+grown r f = record { first = r.first; closed = is_closing f; copied = true; len = r.len + f.len }
+
+-- rows after a continuation: the first row of its id takes it
+abbrev pub extended : FragmentNumbers → List ChainRow → List ChainRow
+extended f [] = []
+extended f (r ∷ rs) = pick (eqb (row_id r) f.ods.object_id) (grown r f ∷ rs) (r ∷ extended f rs)
+
+-- one more fragment: what the rows say of it, and the rows after it
+abbrev pub take_verdict : List ChainRow → FragmentNumbers → Verdict
+take_verdict rows f =
+    pick (is_opening f) (first_verdict object_limit (length rows) (state_in f.ods.object_id rows)) (next_verdict (state_in f.ods.object_id rows))
+
+abbrev pub rows_after : List ChainRow → FragmentNumbers → List ChainRow
+rows_after rows f = pick (is_opening f) (rows ++ (new_row f ∷ [])) (extended f rows)
+
+-- fragments one after another
+abbrev pub taking_verdict : List ChainRow → List Fragment → Verdict
+taking_verdict rows [] = accepted
+taking_verdict rows (f ∷ fs) = and_then (take_verdict rows (fragment_numbers f)) (taking_verdict (rows_after rows (fragment_numbers f)) fs)
+
+abbrev pub rows_with : List ChainRow → List Fragment → List ChainRow
+rows_with rows [] = rows
+rows_with rows (f ∷ fs) = rows_with (rows_after rows (fragment_numbers f)) fs
+
+-- a call of this verdict on a table, which holds `want` where it accepts
+pub record Leaves (v : Verdict) (want now : List ChainRow) (answer : Verdict) : Type 0 where
+  pub answered : answer ≡ v
+  pub left : answer ≡ accepted → now ≡ want
 
 -- the joined lengths of all rows
 abbrev pub total : List ChainRow → ℕ
 total [] = 0
 total (r ∷ rs) = r.len + total rs
 
--- no two chains have one id
-abbrev pub Distinct : List Chain → Type 0
-Distinct [] = Unit {0}
-Distinct (c ∷ cs) = (state_of (object_id c) cs ≡ unseen) × Distinct cs
-
--- the first n rows of a table are those of the chains of these fragments
-pub record Holds (fs : List Fragment) (table : List ChainRow) (n : ℕ) : Type 0 where
-  pub within : n ≤ length table
-  pub rows : take n table ≡ map chain_row (chains_of fs)
-  pub distinct : Distinct (chains_of fs)
-
--- a table after one more fragment f
-pub record Grown (fs : List Fragment) (f : Fragment) (table table' : List ChainRow) (n n' : ℕ) : Type 0 where
-  pub accepts : fragment_verdict (length table) (chains_of fs) f ≡ accepted
-  pub holds : Holds (fs ++ (f ∷ [])) table' n'
-  pub more : total (take n' table') ≤ total (take n table) + length f.bytes
-
--- taking one more fragment into a table, with this answer
-pub record Took (table table' : List ChainRow) (n : ℕ) (h : FragmentNumbers) (answer : Outcome ℕ) : Type 0 where
-  pub turned : (fs : List Fragment) (f : Fragment) → Holds fs table n → h ≡ fragment_numbers f → (k : ℕ) → answer ≡ refuses k
-      → fragment_verdict (length table) (chains_of fs) f ≡ refused k
-  pub grew : (fs : List Fragment) (f : Fragment) → Holds fs table n → h ≡ fragment_numbers f → (n' : ℕ) → answer ≡ gives n'
-      → Grown fs f table table' n n'
-
--- finding the chains of these fragments, with this answer
-pub record FoundChains (fs : List Fragment) (bound : ℕ) (table' : List ChainRow) (answer : Outcome ℕ) : Type 0 where
-  pub turned : (k : ℕ) → answer ≡ refuses k → verdict_after (length table') [] fs ≡ refused k
-  pub accepts : (n : ℕ) → answer ≡ gives n → verdict_after (length table') [] fs ≡ accepted
-  pub holds : (n : ℕ) → answer ≡ gives n → Holds fs table' n
-  pub small : (n : ℕ) → answer ≡ gives n → total (take n table') ≤ bound
-
 -- what the rows say of their objects: 20, 21, 22
 abbrev pub row_verdict : ChainRow → Verdict
-row_verdict r = and_then (unless 20 r.closed) (and_then (unless 21 (leb 4 r.declared)) (unless 22 (eqb (r.declared - 4) r.len)))
+row_verdict r =
+    and_then (unless 20 r.closed)
+    (and_then (unless 21 (leb 4 r.first.ods.object_data_length)) (unless 22 (eqb (r.first.ods.object_data_length - 4) r.len)))
 
 abbrev pub rows_verdict : List ChainRow → Verdict
 rows_verdict [] = accepted
@@ -105,21 +117,26 @@ abbrev pub joined_in : List ChainRow → ℕ
 joined_in [] = 0
 joined_in (r ∷ rs) = copied_in r + joined_in rs
 
--- the place of a row's data, in the stream or from `at` on in the scratch
-abbrev pub place_in : ℕ → ChainRow → ℕ
-place_in at r = pick r.copied at r.start
+-- the object record of a row, whose data, if it is copied, stands at place `at` of the scratch
+abbrev pub record_at : ℕ → ChainRow → ObjectRecord
+record_at at r =
+    record {
+      id = row_id r;
+      version = r.first.ods.object_version_number;
+      width = width_in r.first.ods.dimensions;
+      height = height_in r.first.ods.dimensions;
+      copied = r.copied;
+      place = pick r.copied at r.first.start;
+      len = r.len;
+    }
 
--- the object records of rows
-abbrev pub record_row : ℕ → ChainRow → List ℕ
-record_row at r = r.id ∷ r.version ∷ r.width ∷ r.height ∷ pick r.copied 1 0 ∷ place_in at r ∷ r.len ∷ []
-
-abbrev pub records_from : ℕ → List ChainRow → List (List ℕ)
+abbrev pub records_from : ℕ → List ChainRow → List ObjectRecord
 records_from at [] = []
-records_from at (r ∷ rs) = record_row at r ∷ records_from (at + copied_in r) rs
+records_from at (r ∷ rs) = record_at at r ∷ records_from (at + copied_in r) rs
 
 -- the joined data of a row's object: that of the fragments with its id from its first segment on
 abbrev pub row_data : List ℕ → ChainRow → List ℕ
-row_data s r = joined (with_id r.id (fragments_left s r.place))
+row_data s r = joined (with_id (row_id r) (fragments_left s r.first.place))
 
 abbrev pub row_bytes : List ℕ → ChainRow → List ℕ
 row_bytes s r = pick r.copied (row_data s r) []
@@ -128,22 +145,23 @@ abbrev pub joined_rows : List ℕ → List ChainRow → List ℕ
 joined_rows s [] = []
 joined_rows s (r ∷ rs) = row_bytes s r ++ joined_rows s rs
 
--- the rows' lengths are those of their data
-abbrev pub Measured : List ℕ → List ChainRow → Type 0
-Measured s [] = Unit {0}
-Measured s (r ∷ rs) = (length (row_data s r) ≡ r.len) × Measured s rs
+-- a set is open where a row's first segment stands, and the row's length is that of its data
+pub record Joinable (s : List ℕ) (r : ChainRow) : Type 0 where
+  pub in_set : InSet s r.first.place
+  pub measured : length (row_data s r) ≡ r.len
 
--- the first n rows of a table are those of accepted objects cs of the stream s
-pub record Rows (s : List ℕ) (v : Verdict) (cs : List Chain) (table : List ChainRow) (n need : ℕ) : Type 0 where
-  pub accepts : v ≡ accepted
-  pub within : n ≤ length table
-  pub rows : take n table ≡ map chain_row cs
-  pub small : total (take n table) ≤ length s
-  pub measured : Measured s (take n table)
-  pub bytes : joined_rows s (take n table) ≡ joined_data cs
-  pub joins : need ≡ joined_in (take n table)
+abbrev pub AllJoinable : List ℕ → List ChainRow → Type 0
+AllJoinable s [] = Unit {0}
+AllJoinable s (r ∷ rs) = Joinable s r × AllJoinable s rs
 
--- finding and testing the objects cs, with this answer
-pub record Gathered (s : List ℕ) (v : Verdict) (cs : List Chain) (table : List ChainRow) (answer : Outcome (ℕ × ℕ)) : Type 0 where
-  pub turned : (k : ℕ) → answer ≡ refuses k → v ≡ refused k
-  pub found : (n need : ℕ) → answer ≡ gives (n, need) → Rows s v cs table n need
+-- these rows are those of the objects cs of the stream s
+pub record Rows (s : List ℕ) (cs : List Chain) (now : List ChainRow) : Type 0 where
+  pub rows : now ≡ map chain_row cs
+  pub small : total now ≤ length s
+  pub joinable : AllJoinable s now
+  pub bytes : joined_rows s now ≡ joined_data cs
+
+-- a call of this verdict that finds the objects cs of the stream s, with this answer
+pub record Found (s : List ℕ) (v : Verdict) (cs : List Chain) (now : List ChainRow) (answer : Verdict) : Type 0 where
+  pub answered : answer ≡ v
+  pub found : answer ≡ accepted → Rows s cs now

@@ -2,19 +2,19 @@
 -- Assumes nothing.
 use mathlib.Core.Path.{◌≡◌, refl, sym, ap, ◌∙◌}
 use mathlib.Core.Bool.{Bool, true, false}
-use mathlib.Core.List.{List, ◌∷◌, ◌++◌, map, append-nil}
+use mathlib.Core.List.{List, ◌∷◌, map}
 use Prim.Native.Nat.{ℕ, zero, suc, ◌+◌, ◌-◌, ◌*◌, ◌≤◌, ◌<◌}
 use native.Mathlib.Omega.{arith}
 use borrow.Author.Tests.{leb-true, leb-false, le-leb, lt-leb}
 use lib.Dec.{leb}
 use lib.ListN.{length, take, drop, set, length-drop, length-map}
-use lib.Seq.{drop-length}
-use Rattle.pgs_base.specs.Outcome.{Verdict, Delivered, pick, gives, refuses, outcome_of, unless}
+use Rattle.pgs_base.specs.Bytes.{num}
+use Rattle.pgs_base.specs.Outcome.{Outcome, Verdict, Delivered, pick, gives, refuses, outcome_of, unless}
 use Rattle.pgs_base.proofs.Decisions.{leb-same}
-use Rattle.pgs_base.proofs.Outcomes.{delivered, delivered-refusal, gives_as, refuses-as}
+use Rattle.pgs_base.proofs.Outcomes.{delivered, delivered-refusal, gave, gave-value, turned_down, gives_as, refuses-as}
 use Rattle.pgs_base.proofs.Lists.{to_end}
-use Rattle.pgs_base.proofs.Front.{Front, begins, stored, filled}
-use Rattle.pgs_records.specs.Records.{records, records_fit, records_size}
+use Rattle.pgs_base.proofs.Front.{Front, stored, filled-whole}
+use Rattle.pgs_records.specs.Records.{records, records_fit, records_size, counted_verdict, counted_list, counted_records}
 
 pub records-length : {A : Type 0} (f : List ℕ → A) (size : List ℕ → ℕ) (n : ℕ) (l : List ℕ) → length (records f size n l) ≡ n
 records-length f size zero l = refl
@@ -68,12 +68,6 @@ pub record Walking (size : List ℕ → ℕ) (l : List ℕ) (n i : ℕ) (rest : 
   pub reach : length l - length rest + records_size size (n - i) rest ≡ records_size size n l
 
 module _ (size : List ℕ → ℕ) (l : List ℕ) (n : ℕ) where
-  pub walking : Walking size l n 0 l
-  walking =
-      let z : n - 0 ≡ n = omega arith in
-      let e : length l - length l + records_size size n l ≡ records_size size n l = omega arith in
-      record { within = omega arith; fit = rw z; reach = rw z e }
-
   module _ {i : ℕ} {rest : List ℕ} (s : Walking size l n i rest) where
     passed_one : i < n → size rest ≤ length rest → Walking size l n (i + 1) (drop (size rest) rest)
     passed_one h q =
@@ -93,30 +87,12 @@ module _ (size : List ℕ → ℕ) (l : List ℕ) (n : ℕ) where
     pub walk-on : {k : ℕ} → i < n → k ≡ size rest → k ≤ length rest → Walking size l n (i + 1) (take (length rest - k) (drop k rest))
     walk-on {k} h e q = rw (to_end k rest, e) (passed_one h (rw (← e) q))
 
-    -- the next record is cut short: not all fit
-    pub walk-cut : i < n → length rest < size rest → records_fit size n l ≡ false
-    walk-cut h q = sym s.fit ∙ rw (one_more h) (simp (lt-leb (size rest) (length rest) q))
-
-  -- none is left: all fit
-  module _ {rest : List ℕ} (s : Walking size l n n rest) where
-    none : n - n ≡ 0
-    none = omega arith
-
-    pub walked_all : records_fit size n l ≡ true
-    walked_all = sym s.fit ∙ ap (λ (k : ℕ). records_fit size k rest) none
-
-    pub walked-size : length l - length rest ≡ records_size size n l
-    walked-size = omega (arith, rw none at s.reach)
-
 -- i of n records are stored, and the others stand in `rest`
 pub record Filling {A : Type 0} (f : List ℕ → A) (size : List ℕ → ℕ) (n : ℕ) (whole start now : List A) (i : ℕ) (rest : List ℕ) : Type 0 where
   pub fit : records_fit size (n - i) rest ≡ true
   pub front : Front start whole now (records f size (n - i) rest) i
 
 module _ {A : Type 0} (f : List ℕ → A) (size : List ℕ → ℕ) (n : ℕ) where
-  pub filling : (l : List ℕ) (start : List A) → records_fit size n l ≡ true → Filling f size n (records f size n l) start start 0 l
-  filling l start e = let z : n - 0 ≡ n = omega arith in record { fit = rw z e; front = rw z (begins start (records f size n l)) }
-
   module _ {whole start now : List A} {i : ℕ} {rest : List ℕ} (s : Filling f size n whole start now i rest) (more : i < n) where
     fits : pick (leb (size rest) (length rest)) (records_fit size (n - (i + 1)) (drop (size rest) rest)) false ≡ true
     fits = rw (one_more more) at s.fit
@@ -138,25 +114,13 @@ module _ {A : Type 0} (f : List ℕ → A) (size : List ℕ → ℕ) (n : ℕ) w
           front = stored {now = now} a (rw e next) (omega (arith, s.front.same));
         })
 
-  -- all are stored
-  pub stored-all : {whole start now : List A} {rest : List ℕ} → Filling f size n whole start now n rest → now ≡ whole ++ drop (length whole) start
-  stored-all s = filled (rw (none) at s.front)
-    where
-      none : n - n ≡ 0
-      none = omega arith
-
 -- all are stored, each as a row
 pub stored-rows : {A B : Type 0} (g : A → B) (f : List ℕ → A) (size : List ℕ → ℕ) (l : List ℕ) {start now : List B} {rest : List ℕ}
     → Filling (λ (t : List ℕ). g (f t)) size (length start) (records (λ (t : List ℕ). g (f t)) size (length start) l) start now (length start) rest
     → now ≡ map g (records f size (length start) l)
 stored-rows g f size l {start} s =
     let r = λ (t : List ℕ). g (f t) in
-    let whole = records r size (length start) l in
-    stored-all r size (length start) s
-    ∙ ap (λ (k : ℕ). whole ++ drop k start) (records-length r size (length start) l)
-    ∙ ap (λ (t : List _). whole ++ t) (drop-length start)
-    ∙ append-nil whole
-    ∙ sym (map-records g f size (length start) l)
+    filled-whole s.front (omega (arith, s.front.same)) (records-length r size (length start) l) ∙ sym (map-records g f size (length start) l)
 
 -- records of a fixed size k: whether they fit, and the bytes that they take
 module _ (k n : ℕ) (l : List ℕ) where
@@ -174,3 +138,28 @@ module _ {A X Y : Type 0} {v : Verdict} {x : X} (y : Y) {new before now : List A
 
   pub refused-as : {k : ℕ} → Delivered v x new before now (refuses k) → Delivered v y new before now (refuses k)
   refused-as d = record { answered = refuses-as y (delivered-refusal d); written = d.written }
+
+-- records behind their count, the byte at `at`
+module _ (size : List ℕ → ℕ) (at : ℕ) (b : List ℕ) where
+  -- what follows the count
+  abbrev behind : List ℕ
+  behind = take (length b - (at + 1)) (drop (at + 1) b)
+
+  module _ (h : at < length b) {n : ℕ} (e : n ≡ num 1 at b) where
+    pub counted-walked : {len : ℕ} → gives len ≡ outcome_of (unless 4 (records_fit size n behind)) (records_size size n behind)
+        → gives (record { count = n; start = at + 1; len = len }) ≡ outcome_of (counted_verdict size at b) (counted_list size at b)
+    counted-walked {len} w =
+        let all = gave (unless 4 (records_fit size n behind)) (records_size size n behind) w in
+        let length-is = gave-value (unless 4 (records_fit size n behind)) (records_size size n behind) w in
+        gives_as (simp (le-leb (at + 1) (length b) (omega arith)) (rw (to_end (at + 1) b, e) at all)) (rw (length-is, to_end (at + 1) b, e))
+
+    pub counted-cut : {k : ℕ} → refuses k ≡ outcome_of (unless 4 (records_fit size n behind)) (records_size size n behind)
+        → refuses k ≡ outcome_of (counted_verdict size at b) (counted_list size at b)
+    counted-cut w =
+        let cut = turned_down (unless 4 (records_fit size n behind)) (records_size size n behind) w in
+        refuses-as (counted_list size at b) (simp (le-leb (at + 1) (length b) (omega arith)) (rw (to_end (at + 1) b, e) at cut))
+
+    pub counted-delivered : {A B : Type 0} (g : A → B) (f : List ℕ → A) {before now : List B} {answer : Outcome ℕ}
+        → Delivered (unless 4 (records_fit size n behind)) n (map g (records f size n behind)) before now answer
+        → Delivered (counted_verdict size at b) (num 1 at b) (map g (counted_records f size at b)) before now answer
+    counted-delivered g f d = simp (le-leb (at + 1) (length b) (omega arith)) (rw (to_end (at + 1) b, e) at d)

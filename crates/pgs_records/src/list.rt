@@ -1,9 +1,12 @@
 // The records of a body's list, tested and stored as rows in a caller's list.
 ghost use Rattle.std.specs.Prelude.{◌≡◌, ◌≤◌, ℕ, List, true, length, map};
+ghost use Rattle.pgs_base.specs.Bytes.{num};
 ghost use Rattle.pgs_base.specs.Outcome.{outcome, outcome_of, unless, laid, accepted, Delivered};
-ghost use Rattle.pgs_records.specs.Records.{records, records_fit, records_size};
+ghost use Rattle.pgs_records.specs.Records.{records, records_fit, records_size, counted_verdict, counted_list, counted_records};
 
+use crate::BodyList;
 use pgs_base::refusal::Refusal;
+use pgs_fields::u8_at;
 
 // A record of a body's list: a placement, a window or an entry.
 pub trait ListRecord: Copy {
@@ -76,4 +79,33 @@ pub fn read_list<R: ListRecord>(l: &[u8], n: usize, list: &mut [R::Row]) -> Resu
     }
     fill_rows::<R>(l, &mut list[..n]);
     Ok(n)
+}
+
+// Whether the records of a body are whole, whose count is the byte at `at`, and where they stand.
+pub fn check_counted<R: ListRecord>(body: &[u8], at: usize) -> Result<BodyList, Refusal>
+    ensures { outcome result ≡ outcome_of (counted_verdict R.size at body.now) (counted_list R.size at body.now) }
+{
+    if body.len() <= at {
+        return Err(Refusal::FieldPastEnd);
+    }
+    let start = at + 1;
+    let count = usize::from(u8_at(body, at));
+    let len = R::walk(&body[start..], count)?;
+    Ok(BodyList { count, start, len })
+}
+
+// Reads these records into the caller's list, from the front, and answers how many.
+pub fn read_counted<R: ListRecord>(
+    body: &[u8],
+    at: usize,
+    list: &mut [R::Row],
+) -> Result<usize, Refusal>
+    ensures { Delivered (counted_verdict R.size at body.now) (num 1 at body.now) (map R.to_row (counted_records R.value R.size at body.now))
+        list.old list.new (outcome result) }
+{
+    if body.len() <= at {
+        return Err(Refusal::FieldPastEnd);
+    }
+    let count = usize::from(u8_at(body, at));
+    read_list::<R>(&body[at + 1..], count, list)
 }

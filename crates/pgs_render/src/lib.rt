@@ -1,6 +1,7 @@
 // Painting a display set: 01, module 10.
 #![tactic(auto)]
 
+mod listed_set;
 mod objects;
 mod painting;
 mod palette;

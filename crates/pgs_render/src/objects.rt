@@ -1,42 +1,52 @@
 // The tests of a display set's objects and placements, before their bitmaps are stored: 01, 'Why a call is turned down'.
 ghost use Rattle.std.specs.Prelude.{◌≡◌, ◌<◌, ◌^◌, leb};
 ghost use Rattle.pgs_base.specs.Outcome.{and_then, unless, verdict_of};
-ghost use Rattle.pgs_rendering.specs.Rows.{
-  Narrow,
-  row_joined,
-  rows_joined,
-  rows_need,
-  rows_reading,
-  has_row,
+ghost use Rattle.pgs_pcs.specs.Placements.{placements_left};
+ghost use Rattle.pgs_rendering.specs.Records.{
+  record_area,
+  records_joined,
+  records_need,
+  records_reading,
+  record_size,
+  has_record,
   all_present,
 };
 
+use pgs_base::dimensions::Dimensions;
 use pgs_base::refusal::Refusal;
 use pgs_bitmap_check::bitmap::check_rle;
-use pgs_object_view::view::object_data;
+use pgs_pcs::placements::Placements;
+use pgs_reassembly::ObjectRecord;
 
-// How many bytes of the scratch the joined data of an object takes.
-fn joined_length(row: [u64; 7]) -> usize
-    ensures { result ≡ row_joined row }
+// The size of an object's bitmap.
+// Stays a function: `Dimensions::from(object)` would read as if the record were converted, and keep a part of it without a name.
+pub(crate) fn size(object: ObjectRecord) -> Dimensions
+    ensures { result ≡ record_size object }
 {
-    if row[4] == 0 {
-        return 0;
+    Dimensions {
+        width: object.width,
+        height: object.height,
     }
-    row[6] as usize
+}
+
+// How many pixels it has.
+pub(crate) fn area(object: ObjectRecord) -> usize
+    ensures { result ≡ record_area object }
+{
+    size(object).area()
 }
 
 // Whether the joined data and the bitmaps of objects take no more than `room` bytes.
-pub(crate) fn objects_fit(rows: &[[u64; 7]], room: usize) -> bool
-    requires { Narrow rows.now }
-    ensures { result ≡ leb (rows_need rows.now) room }
+pub(crate) fn objects_fit(records: &[ObjectRecord], room: usize) -> bool
+    ensures { result ≡ leb (records_need records.now) room }
 {
     let mut left = room;
-    for row in rows {
-        let need = joined_length(*row);
+    for record in records {
+        let need = record.joined_len();
         if left < need {
             return false;
         }
-        let area = (row[2] as usize) * (row[3] as usize);
+        let area = area(*record);
         if left - need < area {
             return false;
         }
@@ -46,69 +56,48 @@ pub(crate) fn objects_fit(rows: &[[u64; 7]], room: usize) -> bool
 }
 
 // How many bytes of the scratch the joined data of objects takes.
-pub(crate) fn joined_total(rows: &[[u64; 7]]) -> usize
-    requires { rows_joined rows.now < 2 ^ 64 }
-    ensures { result ≡ rows_joined rows.now }
+pub(crate) fn joined_total(records: &[ObjectRecord]) -> usize
+    requires { records_joined records.now < 2 ^ 64 }
+    ensures { result ≡ records_joined records.now }
 {
-    let mut total: usize = 0;
-    for row in rows {
-        total += joined_length(*row);
-    }
-    total
+    records.iter().map(|record| record.joined_len()).sum()
 }
 
 // Reads every bitmap through without storing it.
-pub(crate) fn check_bitmaps<'a>(
-    s: &'a [u8],
-    scratch: &'a [u8],
-    rows: &[[u64; 7]],
-) -> Result<(), Refusal>
-    requires { Narrow rows.now }
-    ensures { verdict_of result ≡ rows_reading s.now scratch.now rows.now }
+fn check_bitmaps(s: &[u8], scratch: &[u8], records: &[ObjectRecord]) -> Result<(), Refusal>
+    ensures { verdict_of result ≡ records_reading s.now scratch.now records.now }
 {
-    for row in rows {
-        let data = object_data(s, scratch, *row);
-        check_rle(data, row[2] as u16, row[3] as u16)?;
+    for record in records {
+        check_rle(record.data(s, scratch), record.width, record.height)?;
     }
     Ok(())
 }
 
 // Whether an object has this id.
-fn has_object(rows: &[[u64; 7]], id: u16) -> bool
-    ensures { result ≡ has_row rows.now id }
+fn has_object(records: &[ObjectRecord], id: u16) -> bool
+    ensures { result ≡ has_record records.now id }
 {
-    for row in rows {
-        if row[0] == id as u64 {
-            return true;
-        }
-    }
-    false
+    records.iter().any(|record| record.id == id)
 }
 
 // Whether every placement's object is in the set.
-pub(crate) fn all_present(rows: &[[u64; 7]], placements: &[[u16; 10]]) -> bool
-    ensures { result ≡ all_present rows.now placements.now }
+fn all_present(records: &[ObjectRecord], mut placements: Placements<'_>) -> bool
+    ensures { result ≡ all_present records.now (placements_left placements.entry) }
 {
-    for placement in placements {
-        if !has_object(rows, placement[0]) {
-            return false;
-        }
-    }
-    true
+    placements.all(|placement| has_object(records, placement.object_id))
 }
 
 // 24 to 33 of a set, without storing.
-pub(crate) fn check_content<'a>(
-    s: &'a [u8],
-    scratch: &'a [u8],
-    rows: &[[u64; 7]],
-    placements: &[[u16; 10]],
+pub(crate) fn check_content(
+    s: &[u8],
+    scratch: &[u8],
+    records: &[ObjectRecord],
+    placements: Placements<'_>,
 ) -> Result<(), Refusal>
-    requires { Narrow rows.now }
-    ensures { verdict_of result ≡ and_then (rows_reading s.now scratch.now rows.now) (unless 33 (all_present rows.now placements.now)) }
+    ensures { verdict_of result ≡ and_then (records_reading s.now scratch.now records.now) (unless 33 (all_present records.now (placements_left placements.entry))) }
 {
-    check_bitmaps(s, scratch, rows)?;
-    if !all_present(rows, placements) {
+    check_bitmaps(s, scratch, records)?;
+    if !all_present(records, placements) {
         return Err(Refusal::ObjectNotInSet);
     }
     Ok(())

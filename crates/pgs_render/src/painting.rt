@@ -1,94 +1,62 @@
 // The placements of a display set painted in order: 01, 'Plane'.
-ghost use Rattle.std.specs.Prelude.{◌≡◌, map, ◌+◌, ◌*◌, ◌≤◌, ◌<◌, ◌^◌, length};
-ghost use Rattle.pgs_plane.specs.Placing.{table_color};
+ghost use Rattle.std.specs.Prelude.{◌≡◌, true, None, Some, ◌+◌, ◌*◌, ◌≤◌, length, MatchOption};
+ghost use Rattle.pgs_plane.specs.Placing.{image_of, table_color};
 ghost use Rattle.pgs_plane.specs.Pictures.{painted_all};
-ghost use Rattle.pgs_pcs.specs.PcsBody.{crop_from};
-ghost use Rattle.pgs_rendering.specs.Rows.{Narrow, rows_area, bitmap_at, look_at, placement_in};
+ghost use Rattle.pgs_pcs.specs.Placements.{placements_left};
+ghost use Rattle.pgs_rendering.specs.Records.{all_present, bitmap_at, look_at, records_area};
 
+use crate::objects::size;
+use pgs_base::dimensions::Dimensions;
 use pgs_paint::paint::{Image, paint_placement};
-use pgs_pcs::pcs::{CompositionObject, CompositionObjectCrop};
-use pgs_plane::plane::PlaneSize;
-use pgs_rendering::Bitmap;
+use pgs_palette::palette::TABLE_LEN;
+use pgs_pcs::placements::Placements;
+use pgs_reassembly::ObjectRecord;
 
-// The bitmap of an object id; the bitmaps stand one after another from `from` on.
-fn find_bitmap(rows: &[[u64; 7]], from: usize, id: u16) -> Bitmap
-    requires narrow { Narrow rows.now }
-    requires rows_bound { from + rows_area rows.now < 2 ^ 64 }
-    ensures { result ≡ bitmap_at from rows.now id }
-{
-    let mut at = from;
-    for row in rows {
-        let width = row[2] as u16;
-        let height = row[3] as u16;
-        if row[0] == id as u64 {
-            return Bitmap {
-                width,
-                height,
-                place: at,
-            };
+// The bitmaps of objects, which stand in a scratch one after another from a place on.
+#[derive(Clone, Copy)]
+pub(crate) struct StoredBitmaps<'a> {
+    pub(crate) records: &'a [ObjectRecord],
+    pub(crate) scratch: &'a [u8],
+    pub(crate) from: usize,
+    ghost room: { from + records_area records.now ≤ length scratch.now },
+}
+
+impl<'a> StoredBitmaps<'a> {
+    // That of an object id.
+    fn get(self, id: u16) -> Option<Image<'a>>
+        ensures { MatchOption result (bitmap_at self.entry.scratch.now self.entry.from self.entry.records.now id ≡ None)
+            (λ i. bitmap_at self.entry.scratch.now self.entry.from self.entry.records.now id ≡ Some (image_of i.size.width i.size.height i.indices.now)) }
+    {
+        let mut at = self.from;
+        for record in self.records {
+            let size = size(*record);
+            let end = at + size.area();
+            if record.id == id {
+                let indices = &self.scratch[at..end];
+                return Some(Image { size, indices });
+            }
+            at = end;
         }
-        at += (width as usize) * (height as usize);
-    }
-    Bitmap {
-        width: 0,
-        height: 0,
-        place: at,
+        None
     }
 }
 
-fn cropping_of(row: [u16; 10]) -> Option<CompositionObjectCrop>
-    ensures { result ≡ crop_from row }
-{
-    if row[5] == 0 {
-        return None;
-    }
-    Some(CompositionObjectCrop {
-        horizontal_position: row[6],
-        vertical_position: row[7],
-        width: row[8],
-        height: row[9],
-    })
-}
-
-// What a placement's record says of where it shows which part.
-fn placement_of(row: [u16; 10]) -> CompositionObject
-    ensures { result ≡ placement_in row }
-{
-    CompositionObject {
-        object_id: row[0],
-        window_id: 0,
-        object_cropped_flag: 0,
-        object_horizontal_position: row[3],
-        object_vertical_position: row[4],
-        cropping: cropping_of(row),
-    }
-}
-
-// Paints the placements in order; the bitmaps stand in the scratch from `from` on.
+// Paints the placements in order.
 pub(crate) fn paint_placements(
-    placements: &[[u16; 10]],
-    rows: &[[u64; 7]],
-    from: usize,
-    scratch: &[u8],
-    table: &[u8],
-    size: PlaneSize,
+    placements: Placements<'_>,
+    bitmaps: StoredBitmaps<'_>,
+    table: &[u8; TABLE_LEN],
+    size: Dimensions,
     plane: &mut [u8],
 )
-    requires narrow { Narrow rows.now }
-    requires rows_in_bounds { from + rows_area rows.now ≤ length scratch.now }
-    requires in_bounds { 1024 ≤ length table.now }
-    requires height_in_bounds { 4 * size.width * size.height ≤ length plane.old }
-    ensures { plane.new ≡ painted_all (table_color table.now) (look_at scratch.now from rows.now) (map placement_in placements.now) size.width size.height plane.old }
+    requires present { all_present bitmaps.records.now (placements_left placements) ≡ true }
+    requires in_bounds { 4 * size.width * size.height ≤ length plane.old }
+    ensures { plane.new ≡ painted_all (table_color table.now) (look_at bitmaps.entry.scratch.now bitmaps.entry.from bitmaps.entry.records.now)
+        (placements_left placements.entry) size.width size.height plane.old }
 {
-    for row in placements {
-        let bitmap = find_bitmap(rows, from, row[0]);
-        let start = bitmap.place;
-        let end = start + (bitmap.width as usize) * (bitmap.height as usize);
-        let image = Image {
-            width: bitmap.width,
-            height: bitmap.height,
-            indices: &scratch[start..end],
-        };
-        let _ = paint_placement(placement_of(*row), image, table, size, plane);
+    for placement in placements {
+        // the set has its object
+        let image = bitmaps.get(placement.object_id).unwrap();
+        let _ = paint_placement(placement, image, table, size, plane);
     }
 }

@@ -1,10 +1,9 @@
 pub mod PaletteLaws
-pub mod RowLaws
+pub mod RecordLaws
 pub mod PaintLaws
 pub mod ShownLaws
 pub mod StoreLaws
 pub mod ObjectLaws
-pub mod NarrowLaws
 pub mod ColorLaws
 pub mod EntryLaws
 pub mod RenderLaws

@@ -6,7 +6,8 @@ use Prim.Native.Nat.{ℕ, zero, suc, ◌+◌, ◌*◌, ◌≤◌, ◌<◌}
 use native.Mathlib.Omega.{arith}
 use borrow.Author.Tests.{ltb-true}
 use lib.Dec.{ltb}
-use lib.ListN.{length, get_or, length-append}
+use Rattle.std.specs.Prelude.{All}
+use lib.ListN.{length, length-append}
 use Rattle.pgs_base.specs.Outcome.{accepted, unless, pick}
 use Rattle.pgs_base.proofs.Outcomes.{first-accepts, second_holds, holds}
 use Rattle.pgs_bitmap_check.specs.Bitmap.{bitmap_of}
@@ -15,42 +16,35 @@ use Rattle.pgs_reassembly.specs.Objects.{with_id, chains_of, width_of, height_of
 use Rattle.pgs_reassembly.specs.Objects.{first_verdict, next_verdict, fragment_verdict, verdict_after, chains_verdict}
 use Rattle.pgs_reassembly.specs.Objects.{fragments_verdict, fragments_of, object_limit, objects_of, objects_verdict}
 use Rattle.pgs_set.specs.Sets.{set_number, sets_verdict, set_count}
-use Rattle.pgs_reassembly.specs.Reassembly.{copied, copied_data, joined_data, object_row, rows_from, shown_by}
+use Rattle.pgs_reassembly.specs.Reassembly.{copied, copied_data, joined_data, object_record, object_records_from, record_data}
 use Rattle.pgs_rendering.specs.Images.{area_of, bitmaps_of}
-use Rattle.pgs_rendering.specs.Rows.{rows_area, rows_bitmaps, Held}
+use Rattle.pgs_rendering.specs.Records.{records_area, records_bitmaps, Held}
 
-pub area_of_lem : (at : ℕ) (cs : List Chain) → rows_area (rows_from at cs) ≡ area_of cs
+pub area_of_lem : (at : ℕ) (cs : List Chain) → records_area (object_records_from at cs) ≡ area_of cs
 area_of_lem at [] = refl
 area_of_lem at (c ∷ cs) = ap (λ (n : ℕ). width_of c * height_of c + n) (area_of_lem (at + length (copied_data c)) cs)
 
-pub bitmaps-of : (s scratch : List ℕ) (at : ℕ) (cs : List Chain) → map (shown_by s scratch) (rows_from at cs) ≡ map data_of cs
-    → rows_bitmaps s scratch (rows_from at cs) ≡ bitmaps_of cs
+pub bitmaps-of : (s scratch : List ℕ) (at : ℕ) (cs : List Chain) → map (record_data s scratch) (object_records_from at cs) ≡ map data_of cs
+    → records_bitmaps s scratch (object_records_from at cs) ≡ bitmaps_of cs
 bitmaps-of s scratch at [] e = refl
 bitmaps-of s scratch at (c ∷ cs) e =
-    let here : shown_by s scratch (object_row at c) ≡ data_of c = cc in
-    let others : map (shown_by s scratch) (rows_from (at + length (copied_data c)) cs) ≡ map data_of cs = cc in
+    let here : record_data s scratch (object_record at c) ≡ data_of c = cc in
+    let others : map (record_data s scratch) (object_records_from (at + length (copied_data c)) cs) ≡ map data_of cs = cc in
     λ j. bitmap_of (here j) ++ bitmaps-of s scratch (at + length (copied_data c)) cs others j
 
 -- data that is copied stands before the end of the joined data
-one-held : (at end : ℕ) (c : Chain) → at + length (copied_data c) ≤ end → Held (object_row at c) end
-one-held at end c h =
-    record {
-      holder = λ away. go (copied c) away;
-      before = λ away. within (copied c) refl away;
-    }
+one-held : (at end : ℕ) (c : Chain) → at + length (copied_data c) ≤ end → Held end (object_record at c)
+one-held at end c h = go (copied c) refl
   where
-    go : (b : Bool) → (pick {A = ℕ} b 1 0 ≡ 0 → ⊥) → pick {A = ℕ} b 1 0 ≡ 1
-    go true away = refl
-    go false away = absurd (away refl)
+    go : (b : Bool) → copied c ≡ b → b ≡ true → pick b at (data_place c.first) + length (data_of c) ≤ end
+    go true e t = omega (arith, ap (λ (t : Bool). length (pick t (data_of c) [])) e, h)
+    go false e t = cc
 
-    within : (b : Bool) → copied c ≡ b → (pick {A = ℕ} b 1 0 ≡ 0 → ⊥) → pick b at (data_place c.first) + length (data_of c) ≤ end
-    within true e away = omega (arith, ap (λ (t : Bool). length (pick t (data_of c) [])) e, h)
-    within false e away = absurd (away refl)
-
-pub rows-held : (at end : ℕ) (cs : List Chain) → at + length (joined_data cs) ≤ end → (i : ℕ) → Held (get_or (rows_from at cs) i []) end
-rows-held at end [] h i = record { holder = λ away. absurd (away refl); before = λ away. absurd (away refl) }
-rows-held at end (c ∷ cs) h zero = one-held at end c (omega (arith, length-append (copied_data c) (joined_data cs)))
-rows-held at end (c ∷ cs) h (suc i) = rows-held (at + length (copied_data c)) end cs (omega (arith, length-append (copied_data c) (joined_data cs))) i
+pub records-held : (at end : ℕ) (cs : List Chain) → at + length (joined_data cs) ≤ end → All (Held end) (object_records_from at cs)
+records-held at end [] h i d m = absurd (omega arith)
+records-held at end (c ∷ cs) h zero d m = one-held at end c (omega (arith, length-append (copied_data c) (joined_data cs)))
+records-held at end (c ∷ cs) h (suc i) d m =
+    records-held (at + length (copied_data c)) end cs (omega (arith, length-append (copied_data c) (joined_data cs))) i d (omega arith)
 
 -- a set that is accepted has no more objects than the limit
 chains-snoc : (fs : List Fragment) (f : Fragment) → length (chains_of (fs ++ (f ∷ []))) ≡ length (chains_of fs) + pick {A = ℕ} (opens_chain f) 1 0

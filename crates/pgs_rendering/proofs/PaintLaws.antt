@@ -1,170 +1,159 @@
 -- Finding bitmaps in the scratch, and painting placements in order. Assumes nothing.
-use Rattle.pgs_base.specs.Outcome.{Verdict}
-use Rattle.pgs_pcs.specs.declared.pcs.CompositionObjectCrop.{CompositionObjectCrop}
-use Rattle.std.specs.Prelude.{Option, None, Some}
-use mathlib.Core.Path.{◌≡◌, refl, sym, ap, ◌∙◌}
-use mathlib.Core.Bool.{Bool, true, false}
-use mathlib.Core.List.{List, [], ◌∷◌, map}
+use Rattle.std.specs.Prelude.{Option, None, Some, IsSome, MatchOption}
+use mathlib.Core.Path.{◌≡◌, refl, sym, ap, subst, ◌∙◌}
+use mathlib.Core.Bool.{Bool, true, false, ◌||◌, ◌&&◌}
+use mathlib.Core.List.{List, [], ◌∷◌}
 use Prim.Native.Nat.{ℕ, ◌+◌, ◌-◌, ◌*◌, ◌≤◌, ◌<◌}
 use native.Mathlib.Omega.{arith}
 use borrow.Author.Tests.{eq-eqb, ne_eqb}
 use lib.Dec.{eqb}
 use lib.ListN.{length, take, drop, get_or, length-drop, drop_of_length-le}
 use lib.Seq.{length-take-le}
-use Rattle.pgs_base.specs.Outcome.{pick}
+use Rattle.pgs_base.specs.Outcome.{Verdict, pick}
 use Rattle.pgs_plane.specs.Calls.{all_fit, Paints}
 use Rattle.pgs_plane.specs.Pictures.{painted, painted_all}
-use Rattle.pgs_plane.specs.Placing.{index_shown, table_color}
+use Rattle.pgs_plane.specs.Placing.{Image, image_of, index_shown, table_color}
 use Rattle.pgs_plane.proofs.CallLaws.{all-fit}
 use Rattle.pgs_pcs.specs.declared.pcs.CompositionObject.{CompositionObject}
 use Rattle.pgs_reassembly.proofs.Lists.{drop-next}
-use Rattle.pgs_pcs.specs.PcsBody.{crop_from}
-use Rattle.pgs_rendering.specs.Rows.{row_area, rows_area, bitmap_at, image_at, look_at, placement_in}
-use Rattle.pgs_rendering.specs.declared.Bitmap.{Bitmap}
-
--- the crop of a placement's record
-module _ (r : List ℕ) where
-  crop : Option CompositionObjectCrop
-  crop = Some (record { horizontal_position = get_or r 6 0; vertical_position = get_or r 7 0; width = get_or r 8 0; height = get_or r 9 0 })
-
-  pub crop-none : get_or r 5 0 ≡ 0 → None ≡ crop_from r
-  unfolding crop
-  crop-none e = sym (ap (λ (b : Bool). pick b None crop) (eq-eqb (get_or r 5 0) 0 e))
-
-  pub crop-some : (get_or r 5 0 ≡ 0 → ⊥)
-      → Some (record { horizontal_position = get_or r 6 0; vertical_position = get_or r 7 0; width = get_or r 8 0; height = get_or r 9 0 }) ≡ crop_from r
-  unfolding crop
-  crop-some e = sym (ap (λ (b : Bool). pick b None crop) (ne_eqb (get_or r 5 0) 0 e))
-
-  pub placed : {k : Option CompositionObjectCrop} → k ≡ crop_from r
-      → record {
-        object_id = get_or r 0 0;
-        window_id = 0;
-        object_cropped_flag = 0;
-        object_horizontal_position = get_or r 3 0;
-        object_vertical_position = get_or r 4 0;
-        cropping = k;
-      } ≡ placement_in r
-  placed e =
-      λ j.
-      record {
-        object_id = get_or r 0 0;
-        window_id = 0;
-        object_cropped_flag = 0;
-        object_horizontal_position = get_or r 3 0;
-        object_vertical_position = get_or r 4 0;
-        cropping = e j;
-      }
-
--- the ids of i rows are others, and the bitmap of the next one stands at `at`
-pub record Seeing (rows : List (List ℕ)) (from id i at : ℕ) : Type 0 where
-  pub within : i ≤ length rows
-  pub found : bitmap_at at (drop i rows) id ≡ bitmap_at from rows id
-  pub room : at + rows_area (drop i rows) ≡ from + rows_area rows
-
-module _ (rows : List (List ℕ)) (from id : ℕ) where
-  pub seeing : Seeing rows from id 0 from
-  seeing = record { within = omega arith; found = refl; room = refl }
-
-  module _ {i at : ℕ} (c : Seeing rows from id i at) where
-    tests : i < length rows → {b : Bool} → eqb (get_or (get_or rows i []) 0 0) id ≡ b
-        → pick b (record { width = get_or (get_or rows i []) 2 0; height = get_or (get_or rows i []) 3 0; place = at }) (bitmap_at (at + row_area (get_or rows i [])) (drop (i + 1) rows) id)
-        ≡ bitmap_at from rows id
-    tests m e =
-        ap
-        (λ (b : Bool).
-        pick b (record { width = get_or (get_or rows i []) 2 0; height = get_or (get_or rows i []) 3 0; place = at }) (bitmap_at (at + row_area (get_or rows i [])) (drop (i + 1) rows) id))
-        (sym e)
-        ∙ ap (λ (l : List (List ℕ)). bitmap_at at l id) (sym (drop-next rows i [] m))
-        ∙ c.found
-
-    split : i < length rows → rows_area (drop i rows) ≡ row_area (get_or rows i []) + rows_area (drop (i + 1) rows)
-    split m = ap rows_area (drop-next rows i [] m)
-
-    pub sees-here : i < length rows → get_or (get_or rows i []) 0 0 ≡ id
-        → record { width = get_or (get_or rows i []) 2 0; height = get_or (get_or rows i []) 3 0; place = at } ≡ bitmap_at from rows id
-    sees-here m e = tests m (eq-eqb (get_or (get_or rows i []) 0 0) id e)
-
-    pub sees-within : i < length rows → at + row_area (get_or rows i []) ≤ from + rows_area rows
-    sees-within m = omega (arith, c.room, split m)
-
-    pub sees-on : i < length rows → (get_or (get_or rows i []) 0 0 ≡ id → ⊥) → Seeing rows from id (i + 1) (at + row_area (get_or rows i []))
-    sees-on m e = record { within = omega arith; found = tests m (ne_eqb (get_or (get_or rows i []) 0 0) id e); room = omega (arith, c.room, split m) }
-
-    pub sees-none : length rows ≤ i → record { width = 0; height = 0; place = at } ≡ bitmap_at from rows id
-    sees-none h = ap (λ (l : List (List ℕ)). bitmap_at at l id) (sym (drop_of_length-le rows h)) ∙ c.found
-
--- a bitmap lies within the bitmaps
-pub bitmap-within : (at : ℕ) (rows : List (List ℕ)) (id : ℕ)
-    → (bitmap_at at rows id).place + (bitmap_at at rows id).width * (bitmap_at at rows id).height ≤ at + rows_area rows
-bitmap-within at [] id = omega arith
-bitmap-within at (r ∷ rs) id = go (eqb (get_or r 0 0) id) (bitmap-within (at + row_area r) rs id)
-  where
-    go : (b : Bool)
-        → (bitmap_at (at + row_area r) rs id).place + (bitmap_at (at + row_area r) rs id).width * (bitmap_at (at + row_area r) rs id).height ≤ at + row_area r + rows_area rs
-        → (pick b (record { width = get_or r 2 0; height = get_or r 3 0; place = at }) (bitmap_at (at + row_area r) rs id)).place
-        + (pick b (record { width = get_or r 2 0; height = get_or r 3 0; place = at }) (bitmap_at (at + row_area r) rs id)).width
-        * (pick b (record { width = get_or r 2 0; height = get_or r 3 0; place = at }) (bitmap_at (at + row_area r) rs id)).height
-        ≤ at + (row_area r + rows_area rs)
-    go true h = omega arith
-    go false h = omega arith
+use Rattle.pgs_reassembly.specs.declared.ObjectRecord.{ObjectRecord}
+use Rattle.pgs_rendering.specs.Records.{record_size, record_area, records_area, has_record, all_present, bitmap_at, image_or, look_at}
+use Rattle.pgs_base.specs.declared.dimensions.Dimensions.{Dimensions}
+use Rattle.pgs_rendering.proofs.RecordLaws.{no_record}
 
 -- a part as the code lends it
 pub lent-part : (place area : ℕ) (l : List ℕ) → take (place + area - place) (drop place l) ≡ take area (drop place l)
 lent-part place area l = let e : place + area - place ≡ area = omega arith in ap (λ (n : ℕ). take n (drop place l)) e
 
--- i placements are painted
-pub record Painting (ps rows : List (List ℕ)) (from : ℕ) (scratch table : List ℕ) (w h : ℕ) (start plane : List ℕ) (i : ℕ) : Type 0 where
-  pub within : i ≤ length ps
-  pub same : length plane ≡ length start
-  pub left : painted_all (table_color table) (look_at scratch from rows) (map placement_in (drop i ps)) w h plane
-      ≡ painted_all (table_color table) (look_at scratch from rows) (map placement_in ps) w h start
+-- the bitmap of a record that stands at a place
+abbrev pub image_at : List ℕ → ℕ → ObjectRecord → Image
+image_at scratch at r = image_of r.width r.height (take (record_area r) (drop at scratch))
 
-module _ (ps rows : List (List ℕ)) (from : ℕ) (scratch table : List ℕ) (w h : ℕ) (start : List ℕ) where
-  pub painting : Painting ps rows from scratch table w h start start 0
-  painting = record { within = omega arith; same = refl; left = refl }
+-- the ids of i records are others, and the bitmap of the next one stands at `at`
+pub record Seeing (rs : List ObjectRecord) (scratch : List ℕ) (from id i at : ℕ) : Type 0 where
+  pub within : i ≤ length rs
+  pub found : bitmap_at scratch at (drop i rs) id ≡ bitmap_at scratch from rs id
+  pub room : at + records_area (drop i rs) ≡ from + records_area rs
 
-  module _ {plane : List ℕ} {i : ℕ} (c : Painting ps rows from scratch table w h start plane i) where
-    -- the bitmap lies in the scratch
-    pub paints-within : from + rows_area rows ≤ length scratch → {b : Bitmap} (id : ℕ) → b ≡ bitmap_at from rows id
-        → b.place + b.width * b.height ≤ length scratch
-    paints-within room {b} id e =
-        ap-le (sym e) (bitmap-within from rows id)
-      where
-        ap-le : {x : Bitmap} → x ≡ b → x.place + x.width * x.height ≤ from + rows_area rows → b.place + b.width * b.height ≤ length scratch
-        ap-le q l = let k : b.place + b.width * b.height ≤ from + rows_area rows = rw q at l in omega arith
+module _ (rs : List ObjectRecord) (scratch : List ℕ) (from id : ℕ) where
+  pub seeing : Seeing rs scratch from id 0 from
+  seeing = record { within = omega arith; found = refl; room = refl }
 
-    pub paints-on : i < length ps → from + rows_area rows ≤ length scratch → 1024 ≤ length table → 4 * w * h ≤ length start
-        → {b : Bitmap} → b ≡ bitmap_at from rows (get_or (get_or ps i []) 0 0)
-        → {p : CompositionObject} → p ≡ placement_in (get_or ps i [])
-        → {image : List ℕ} → image ≡ take (b.width * b.height) (drop b.place scratch)
-        → {answer : Verdict} {plane' : List ℕ} → Paints p (record { image_width = b.width; image_height = b.height; indices = image }) table w h plane answer plane'
-        → length plane' ≡ length plane
-        → Painting ps rows from scratch table w h start plane' (i + 1)
-    paints-on m room tab big {b} eb {p} ep {image} ei {answer} {plane'} call long =
+  module _ {i at : ℕ} (c : Seeing rs scratch from id i at) where
+    tests : i < length rs → {b : Bool} → eqb (get_or rs i no_record).id id ≡ b
+        → bitmap_at scratch from rs id
+        ≡ pick b (Some (image_at scratch at (get_or rs i no_record))) (bitmap_at scratch (at + record_area (get_or rs i no_record)) (drop (i + 1) rs) id)
+    tests m e =
+        sym c.found
+        ∙ ap (λ (l : List ObjectRecord). bitmap_at scratch at l id) (drop-next rs i no_record m)
+        ∙ ap
+        (λ (b : Bool). pick b (Some (image_at scratch at (get_or rs i no_record))) (bitmap_at scratch (at + record_area (get_or rs i no_record)) (drop (i + 1) rs) id))
+        e
+
+    split : i < length rs → records_area (drop i rs) ≡ record_area (get_or rs i no_record) + records_area (drop (i + 1) rs)
+    split m = ap records_area (drop-next rs i no_record m)
+
+    -- its bitmap, as the code lends it
+    pub sees-here : i < length rs → (get_or rs i no_record).id ≡ id → {size : Dimensions} → size ≡ record_size (get_or rs i no_record)
+        → {area : ℕ} → area ≡ size.width * size.height
+        → bitmap_at scratch from rs id ≡ Some (image_of size.width size.height (take (at + area - at) (drop at scratch)))
+    sees-here m e {size} es {area} ea =
+        tests m (eq-eqb (get_or rs i no_record).id id e)
+        ∙ (λ j. Some (image_of (sym es j).width (sym es j).height (take ((sym es j).width * (sym es j).height) (drop at scratch))))
+        ∙ ap (λ (l : List ℕ). Some (image_of size.width size.height l)) (ap (λ (n : ℕ). take n (drop at scratch)) (sym ea) ∙ sym (lent-part at area scratch))
+
+    pub sees-within : i < length rs → {size : Dimensions} → size ≡ record_size (get_or rs i no_record) → at + size.width * size.height ≤ from + records_area rs
+    sees-within m e = omega (arith, c.room, split m, ap (λ (d : Dimensions). d.width * d.height) e)
+
+    pub sees-on : i < length rs → ((get_or rs i no_record).id ≡ id → ⊥) → {size : Dimensions} → size ≡ record_size (get_or rs i no_record)
+        → {area : ℕ} → area ≡ size.width * size.height → Seeing rs scratch from id (i + 1) (at + area)
+    sees-on m e es ea =
+        rw (ea ∙ ap (λ (d : Dimensions). d.width * d.height) es)
+        (record { within = omega arith; found = sym (tests m (ne_eqb (get_or rs i no_record).id id e)); room = omega (arith, c.room, split m) })
+
+    pub sees-none : length rs ≤ i → bitmap_at scratch from rs id ≡ None
+    sees-none h = sym c.found ∙ ap (λ (l : List ObjectRecord). bitmap_at scratch at l id) (drop_of_length-le rs h)
+
+-- an object that is there has a bitmap, with an index for each pixel
+pub record Found (o : Option Image) : Type 0 where
+  pub image : Image
+  pub itself : o ≡ Some image
+  pub full : image.image_width * image.image_height ≤ length image.indices
+
+bitmap-found : (scratch : List ℕ) (at : ℕ) (rs : List ObjectRecord) (id : ℕ) → at + records_area rs ≤ length scratch → has_record rs id ≡ true
+    → Found (bitmap_at scratch at rs id)
+bitmap-found scratch at [] id h e = cc
+bitmap-found scratch at (r ∷ rs) id h e = go (eqb r.id id) (bitmap-found scratch (at + record_area r) rs id (omega (arith, h))) e
+  where
+    go : (b : Bool) → (has_record rs id ≡ true → Found (bitmap_at scratch (at + record_area r) rs id)) → (b || has_record rs id) ≡ true
+        → Found (pick b (Some (image_at scratch at r)) (bitmap_at scratch (at + record_area r) rs id))
+    go true ih e =
         record {
-          within = omega arith;
-          same = long ∙ c.same;
-          left =
-              ap (λ (l : List ℕ). painted_all (table_color table) (look_at scratch from rows) (map placement_in (drop (i + 1) ps)) w h l) done
-              ∙ ap (λ (l : List (List ℕ)). painted_all (table_color table) (look_at scratch from rows) (map placement_in l) w h plane) (sym (drop-next ps i [] m))
-              ∙ c.left;
+          image = image_at scratch at r;
+          itself = refl;
+          full = omega (arith, length-take-le (record_area r) (drop at scratch) (rw length-drop (omega (arith, h))));
         }
-      where
-        size : b.width * b.height ≤ length image
-        size = omega (arith, ap length ei, length-take-le (b.width * b.height) (drop b.place scratch) (rw length-drop (omega (arith, paints-within room (get_or (get_or ps i []) 0 0) eb))))
+    go false ih e = ih e
 
-        met : all_fit (record { image_width = b.width; image_height = b.height; indices = image }) table w h plane ≡ true
-        met = all-fit (record { image_width = b.width; image_height = b.height; indices = image }) table w h plane (omega (arith, c.same)) tab size
+-- a value that is there, by what an answer says
+pub there-by : {A : Type 0} {P : Type 0} (Q : A → Type 0) (o : Option A) → MatchOption o P Q → (P → ⊥) → IsSome o
+there-by Q None m n = absurd (n m)
+there-by Q (Some x) m n = refl
 
-        done : plane' ≡ painted (table_color table) (index_shown (placement_in (get_or ps i [])) (look_at scratch from rows (get_or (get_or ps i []) 0 0))) w h plane
-        done =
-            call.plane
-            ∙ ap (λ (t : Bool). pick t (painted (table_color table) (index_shown p (record { image_width = b.width; image_height = b.height; indices = image })) w h plane) plane) met
-            ∙ (λ j. painted (table_color table) (index_shown (ep j) (record { image_width = b.width; image_height = b.height; indices = ei j })) w h plane)
-            ∙ ap (λ (x : Bitmap). painted (table_color table) (index_shown (placement_in (get_or ps i [])) (image_at scratch x)) w h plane) eb
+-- the placements before `left` are painted
+pub record Painting (ps left : List CompositionObject) (rs : List ObjectRecord) (from : ℕ) (scratch table : List ℕ) (w h : ℕ) (start plane : List ℕ) : Type 0 where
+  pub same : length plane ≡ length start
+  pub present : all_present rs left ≡ true
+  pub shows : painted_all (table_color table) (look_at scratch from rs) left w h plane
+      ≡ painted_all (table_color table) (look_at scratch from rs) ps w h start
 
-    pub painted-all : length ps ≤ i
-        → plane ≡ painted_all (table_color table) (look_at scratch from rows) (map placement_in ps) w h start
-    painted-all g =
-        ap (λ (l : List (List ℕ)). painted_all (table_color table) (look_at scratch from rows) (map placement_in l) w h plane) (sym (drop_of_length-le ps g)) ∙ c.left
+module _ {ps : List CompositionObject} {rs : List ObjectRecord} {from : ℕ} {scratch table : List ℕ} {w h : ℕ} {start : List ℕ} where
+  pub painting : all_present rs ps ≡ true → Painting ps ps rs from scratch table w h start start
+  painting e = record { same = refl; present = e; shows = refl }
+
+  module _ {left : List CompositionObject} {plane : List ℕ} (c : Painting ps left rs from scratch table w h start plane) where
+    module _ {p : CompositionObject} {rest : List CompositionObject} (e : left ≡ p ∷ rest) where
+      both : (b t : Bool) → (b && t) ≡ true → (b ≡ true) × (t ≡ true)
+      both true t q = (refl, q)
+      both false t q = cc
+
+      there : (has_record rs p.object_id ≡ true) × (all_present rs rest ≡ true)
+      there = both (has_record rs p.object_id) (all_present rs rest) (ap (all_present rs) (sym e) ∙ c.present)
+
+      -- its object has a bitmap
+      pub paints-found : from + records_area rs ≤ length scratch → Found (bitmap_at scratch from rs p.object_id)
+      paints-found room = bitmap-found scratch from rs p.object_id room there.0
+
+      module _ (room : from + records_area rs ≤ length scratch) {image : Image} (eb : bitmap_at scratch from rs p.object_id ≡ Some image) where
+        full : image.image_width * image.image_height ≤ length image.indices
+        full =
+            let f = paints-found room in
+            let q : f.image ≡ image = let k : Some f.image ≡ Some image = sym f.itself ∙ eb in cc in
+            subst (λ (i : Image). i.image_width * i.image_height ≤ length i.indices) q f.full
+
+        pub paints-on : 1024 ≤ length table → 4 * w * h ≤ length start
+            → {answer : Verdict} {plane' : List ℕ} → Paints p image table w h plane answer plane'
+            → length plane' ≡ length plane
+            → Painting ps rest rs from scratch table w h start plane'
+        paints-on tab big {answer} {plane'} call long =
+            record {
+              same = long ∙ c.same;
+              present = there.1;
+              shows =
+                  ap (λ (l : List ℕ). painted_all (table_color table) (look_at scratch from rs) rest w h l) done
+                  ∙ ap (λ (l : List CompositionObject). painted_all (table_color table) (look_at scratch from rs) l w h plane) (sym e)
+                  ∙ c.shows;
+            }
+          where
+            met : all_fit image table w h plane ≡ true
+            met = all-fit image table w h plane (omega (arith, c.same)) tab full
+
+            done : plane' ≡ painted (table_color table) (index_shown p (look_at scratch from rs p.object_id)) w h plane
+            done =
+                call.plane
+                ∙ ap (λ (t : Bool). pick t (painted (table_color table) (index_shown p image) w h plane) plane) met
+                ∙ ap (λ (o : Option Image). painted (table_color table) (index_shown p (image_or o)) w h plane) (sym eb)
+
+    pub painted-all : left ≡ [] → plane ≡ painted_all (table_color table) (look_at scratch from rs) ps w h start
+    painted-all e =
+        ap (λ (l : List CompositionObject). painted_all (table_color table) (look_at scratch from rs) l w h plane) (sym e) ∙ c.shows

@@ -1,38 +1,37 @@
 -- The table of a set: the entries of its palettes laid one after another. Assumes nothing.
 use mathlib.Core.Path.{◌≡◌, refl, sym, ap, ◌∙◌}
-use mathlib.Core.Bool.{Bool, true, false}
+use mathlib.Core.Bool.{Bool, true}
 use mathlib.Core.List.{List, [], ◌∷◌, ◌++◌, map}
-use Prim.Native.Nat.{ℕ, zero, suc, ◌+◌, ◌-◌, ◌*◌, ◌/◌, ◌≤◌, ◌<◌}
+use Prim.Native.Nat.{ℕ, zero, suc, ◌+◌, ◌-◌, ◌*◌, ◌/◌, ◌≤◌}
 use native.Mathlib.Omega.{arith}
 use borrow.Author.Tests.{le-leb}
 use lib.ListN.{length, take, drop, length-drop}
 use Rattle.pgs_base.specs.Bytes.{num}
 use Rattle.pgs_views.specs.Kinds.{type_of}
 use Rattle.pgs_base.specs.Outcome.{Verdict, accepted, pick}
-use Rattle.pgs_views.specs.declared.segment_type.SegmentType.{SegmentType}
-use Rattle.pgs_views.specs.declared.segment_type.SegmentType.TheVariants.{Pds, Ods, Pcs, Wds, End, Other}
 use Rattle.pgs_base.proofs.Bytes.{num-byte}
 use Rattle.pgs_base.proofs.Lists.{to_end}
 use Rattle.std.specs.Simd.{first_chunks}
 use Rattle.pgs_base.proofs.Outcomes.{first-accepts}
-use Rattle.pgs_segment.specs.Fields.{body_verdict}
 use Rattle.pgs_segment.specs.Header.{header_fields}
 use Rattle.pgs_segment.specs.OneSegment.{segment_type, segment_verdict, used_by, body_at}
 use Rattle.pgs_pds.specs.PdsBody as pds
 use Rattle.pgs_records.specs.Records.{records}
 use Rattle.pgs_stream.specs.Stream.{step_verdict}
-use Rattle.pgs_segment.specs.declared.header.SegmentHeader.{SegmentHeader}
 use Rattle.pgs_stream.proofs.ReadingLaws.{own_body}
-use Rattle.pgs_segment.proofs.SegmentLaws.{accepted-body}
 use Rattle.pgs_color.specs.Bytes.{rgb_of}
 use Rattle.pgs_palette.specs.Palette.{Entry, entry_of, applying}
 use Rattle.pgs_palette.specs.Table.{laid, Updates}
 use Rattle.pgs_palette.proofs.Laying.{laid_none, laid-length, laid-append}
 use Rattle.pgs_set.specs.Sets.{is_end, through_end}
 use Rattle.pgs_set.specs.Walks.{InSet, pieces_at}
-use Rattle.pgs_set.proofs.SetLaws.{kind-read, size-read, inside-more, inside-here, inside_on}
+use Rattle.pgs_stream.specs.Segments.{placed}
+use Rattle.pgs_set.specs.Segments.{set_segments}
+use Rattle.pgs_stream.specs.declared.segments.PlacedSegment.{PlacedSegment}
+use Rattle.pgs_set.proofs.SetLaws.{inside-here}
+use Rattle.pgs_set.proofs.SegmentLaws.{AllStand, by-segments}
 use Rattle.pgs_reassembly.proofs.FragmentLaws.{lent-body}
-use Rattle.pgs_set.proofs.WalkLaws.{pieces-here, type-of-piece, within-here}
+use Rattle.pgs_set.proofs.WalkLaws.{pieces-here, type-of-piece}
 use Rattle.pgs_rendering.specs.Palettes.{is_pds, entries_in, entries_named, entries_among}
 
 -- a call that changed a table that is long enough
@@ -80,130 +79,82 @@ pub chunks-laid : (body : List ℕ) (named : ℕ) {first : ℕ} {es : List Entry
     → es ≡ entries_in body → Updates (laid rgb_of (applying named first es)) v t t' → t' ≡ laid rgb_of (entries_named named body) t
 chunks-laid body named {t = t} room e q u = changed room u ∙ (λ j. laid rgb_of (applying named (e j) (q j)) t)
 
--- the palettes of a set
+-- the palettes of a set: the entries of its segments, in order, by the bytes of their bodies
+abbrev pub entries_behind : ℕ → List ℕ → List PlacedSegment → List Entry
+entries_behind named s [] = []
+entries_behind named s (x ∷ xs) =
+    pick (is_pds (type_of x.header.segment_type)) (entries_named named (take (x.end - (x.at + 13)) (drop (x.at + 13) s))) [] ++ entries_behind named s xs
 
-only-pds : (t : SegmentType) → is_pds t ≡ true → t ≡ Pds
-only-pds Pds e = refl
-only-pds Ods e = cc
-only-pds Pcs e = cc
-only-pds Wds e = cc
-only-pds End e = cc
-only-pds (Other v) e = cc
+module _ (named : ℕ) (s : List ℕ) where
+  -- the entries of the segments of an open set from a place on
+  entries_at : ℕ → List Entry
+  entries_at at = entries_among named (through_end (pieces_at s at))
 
-not-both : (t : SegmentType) → is_end t ≡ true → is_pds t ≡ false
-not-both Pds e = cc
-not-both Ods e = refl
-not-both Pcs e = refl
-not-both Wds e = refl
-not-both End e = refl
-not-both (Other v) e = refl
-
--- the entries of the segments that are left in a set
-abbrev pub entries_left : ℕ → List ℕ → ℕ → List Entry
-entries_left named s at = entries_among named (through_end (pieces_at s at))
-
-module _ (named : ℕ) (s : List ℕ) (at : ℕ) (ok : step_verdict (drop at s) ≡ accepted) where
-  entries-here : entries_left named s at
-      ≡ pick (is_pds (segment_type (drop at s))) (entries_named named (body_at (drop at s))) []
-      ++ entries_among named (pick (is_end (segment_type (drop at s))) [] (through_end (pieces_at s (at + used_by (drop at s)))))
-  entries-here =
-      ap (λ (xs : List (List ℕ)). entries_among named (through_end xs)) (pieces-here s at ok)
-      ∙ (λ j.
-      pick (is_pds (type-of-piece (drop at s) ok j)) (entries_named named (own_body (drop at s) (first-accepts (segment_verdict (drop at s)) _ ok) j)) []
-      ++ entries_among named (pick (is_end (type-of-piece (drop at s) ok j)) [] (through_end (pieces_at s (at + used_by (drop at s))))))
-
-  at-end : is_end (segment_type (drop at s)) ≡ true → entries_left named s at ≡ []
-  at-end e =
-      entries-here
-      ∙ (λ j.
-      pick (not-both (segment_type (drop at s)) e j) (entries_named named (body_at (drop at s))) []
-      ++ entries_among named (pick (e j) [] (through_end (pieces_at s (at + used_by (drop at s))))))
-
-  at_other : is_end (segment_type (drop at s)) ≡ false → is_pds (segment_type (drop at s)) ≡ false → entries_left named s at ≡ entries_left named s (at + used_by (drop at s))
-  at_other e p =
-      entries-here
-      ∙ (λ j.
-      pick (p j) (entries_named named (body_at (drop at s))) []
-      ++ entries_among named (pick (e j) [] (through_end (pieces_at s (at + used_by (drop at s))))))
-
-  at-pds : is_end (segment_type (drop at s)) ≡ false → is_pds (segment_type (drop at s)) ≡ true
-      → entries_left named s at ≡ entries_named named (body_at (drop at s)) ++ entries_left named s (at + used_by (drop at s))
-  at-pds e p =
-      entries-here
-      ∙ (λ j.
-      pick (p j) (entries_named named (body_at (drop at s))) []
-      ++ entries_among named (pick (e j) [] (through_end (pieces_at s (at + used_by (drop at s))))))
-
-  pub pds-body : is_pds (segment_type (drop at s)) ≡ true → pds.pds_verdict (body_at (drop at s)) ≡ accepted
-  pds-body p =
-      ap (λ (t : SegmentType). body_verdict t (body_at (drop at s))) (sym (only-pds (segment_type (drop at s)) p))
-      ∙ accepted-body (drop at s) (first-accepts (segment_verdict (drop at s)) _ ok)
-
--- the palettes before `at` are laid over a table that was empty at the start
-pub record Tabling (named : ℕ) (s start : List ℕ) (from : ℕ) (t : List ℕ) (at : ℕ) : Type 0 where
-  pub in_set : InSet s at
-  pub room : 1024 ≤ length t
-  pub same : length t ≡ length start
-  pub left : laid rgb_of (entries_left named s at) t ≡ laid rgb_of (entries_left named s from) start
-
-module _ (named : ℕ) (s start : List ℕ) (from : ℕ) where
-  pub tabling : InSet s from → 1024 ≤ length start → Tabling named s start from start from
-  tabling i h = record { in_set = i; room = h; same = refl; left = refl }
-
-  module _ {t : List ℕ} {at : ℕ} (c : Tabling named s start from t at) where
+  module _ (at : ℕ) (i : InSet s at) where
     ok : step_verdict (drop at s) ≡ accepted
-    ok = inside-here s c.in_set
+    ok = inside-here s i
 
-    pub tables_more : at < length s
-    tables_more = inside-more s c.in_set
+    -- the body of a segment as the code lends it
+    lent : take (at + (13 + (header_fields (drop at s)).segment_size) - (at + 13)) (drop (at + 13) s) ≡ body_at (drop at s)
+    lent = lent-body s at refl
 
-    -- the segment has its head
-    module _ {h : SegmentHeader} {kind : SegmentType} {b : Bool} (e : h ≡ header_fields (drop at s)) (q : kind ≡ type_of h.segment_type) (r : b ≡ is_end kind) where
-      its-end : b ≡ is_end (segment_type (drop at s))
-      its-end = r ∙ ap is_end (kind-read (drop at s) e q)
+    here : (xs : List PlacedSegment) → entries_behind named s (placed at (header_fields (drop at s)) ∷ xs)
+        ≡ pick (is_pds (segment_type (drop at s))) (entries_named named (body_at (drop at s))) [] ++ entries_behind named s xs
+    here xs = λ j. pick (is_pds (segment_type (drop at s))) (entries_named named (lent j)) [] ++ entries_behind named s xs
 
-      pub tables-within : at + (13 + h.segment_size) ≤ length s
-      tables-within = omega (arith, within-here s at ok, size-read (drop at s) e)
+    entries-here : {b : Bool} → is_end (segment_type (drop at s)) ≡ b → entries_at at
+        ≡ pick (is_pds (segment_type (drop at s))) (entries_named named (body_at (drop at s))) []
+        ++ entries_among named (pick b [] (through_end (pieces_at s (at + used_by (drop at s)))))
+    unfolding entries_at
+    entries-here e =
+        ap (λ (xs : List (List ℕ)). entries_among named (through_end xs)) (pieces-here s at ok)
+        ∙ (λ j.
+        pick (is_pds (type-of-piece (drop at s) ok j)) (entries_named named (own_body (drop at s) (first-accepts (segment_verdict (drop at s)) _ ok) j)) []
+        ++ entries_among named (pick ((ap is_end (type-of-piece (drop at s) ok) ∙ e) j) [] (through_end (pieces_at s (at + used_by (drop at s))))))
 
-      pub tabled : b ≡ true → t ≡ laid rgb_of (entries_left named s from) start
-      tabled f = sym (laid_none rgb_of t) ∙ ap (λ (es : List Entry). laid rgb_of es t) (sym (at-end named s at ok (sym its-end ∙ f))) ∙ c.left
+  -- they are those of the list of its segments
+  pub entries-listed : {at : ℕ} → InSet s at → entries_among named (through_end (pieces_at s at)) ≡ entries_behind named s (set_segments s at)
+  unfolding entries_at
+  entries-listed {at} i =
+      by-segments s (λ (p : ℕ) (xs : List PlacedSegment). entries_at p ≡ entries_behind named s xs)
+      (λ p k e. entries-here p k e ∙ sym (here p k []))
+      (λ p k e on.
+      entries-here p k e
+      ∙ ap (λ (es : List Entry). pick (is_pds (segment_type (drop p s))) (entries_named named (body_at (drop p s))) [] ++ es) on
+      ∙ sym (here p k (set_segments s (p + used_by (drop p s))))) at i
 
-      module _ (f : b ≡ false) {p : Bool} (u : p ≡ is_pds kind) where
-        its-pds : p ≡ is_pds (segment_type (drop at s))
-        its-pds = u ∙ ap is_pds (kind-read (drop at s) e q)
+-- the palettes before `left` are laid over a table
+pub record Tabling (named : ℕ) (s start : List ℕ) (all left : List PlacedSegment) (t : List ℕ) : Type 0 where
+  pub stand : AllStand s left
+  pub room : 1024 ≤ length t
+  pub same : laid rgb_of (entries_behind named s left) t ≡ laid rgb_of (entries_behind named s all) start
 
-        pub tables-other : p ≡ false → Tabling named s start from t (at + (13 + h.segment_size))
-        tables-other g =
-            rw (size-read (drop at s) e)
-            (record {
-              in_set = inside_on s c.in_set (sym its-end ∙ f);
-              room = c.room;
-              same = c.same;
-              left = ap (λ (es : List Entry). laid rgb_of es t) (sym (at_other named s at ok (sym its-end ∙ f) (sym its-pds ∙ g))) ∙ c.left;
-            })
+module _ {named : ℕ} {s start : List ℕ} {all : List PlacedSegment} where
+  pub tabling : AllStand s all → 1024 ≤ length start → {t : List ℕ} → t ≡ start → Tabling named s start all all t
+  tabling a h e = record { stand = a; room = omega (arith, ap length e, h); same = ap (laid rgb_of (entries_behind named s all)) e }
 
-        -- the body as the code lends it
-        lent : take (at + (13 + h.segment_size) - (at + 13)) (drop (at + 13) s) ≡ body_at (drop at s)
-        lent = lent-body s at (size-read (drop at s) e)
+  module _ {left : List PlacedSegment} {t : List ℕ} (c : Tabling named s start all left t) where
+    module _ {x : PlacedSegment} {xs : List PlacedSegment} (e : left ≡ x ∷ xs) where
+      its-left : Tabling named s start all (x ∷ xs) t
+      its-left = rw e at c
 
-        pub tables-body : p ≡ true → pds.pds_verdict (take (at + (13 + h.segment_size) - (at + 13)) (drop (at + 13) s)) ≡ accepted
-        tables-body g = ap pds.pds_verdict lent ∙ pds-body named s at ok (sym its-pds ∙ g)
+      -- one more segment, of a palette or not
+      pub tables-on : {t' : List ℕ}
+          → t' ≡ laid rgb_of (pick (is_pds (type_of x.header.segment_type)) (entries_named named (take (x.end - (x.at + 13)) (drop (x.at + 13) s))) []) t
+          → Tabling named s start all xs t'
+      tables-on {t'} w =
+          record {
+            stand = its-left.stand.1;
+            room = omega (arith, ap length w, laid-length rgb_of es t c.room, c.room);
+            same = ap (laid rgb_of (entries_behind named s xs)) w ∙ sym (laid-append rgb_of es (entries_behind named s xs) t c.room) ∙ its-left.same;
+          }
+        where
+          es : List Entry
+          es = pick (is_pds (type_of x.header.segment_type)) (entries_named named (take (x.end - (x.at + 13)) (drop (x.at + 13) s))) []
 
-        pub tables-pds : p ≡ true → {t' : List ℕ}
-            → t' ≡ laid rgb_of (entries_named named (take (at + (13 + h.segment_size) - (at + 13)) (drop (at + 13) s))) t
-            → Tabling named s start from t' (at + (13 + h.segment_size))
-        tables-pds g {t'} w = rw (size-read (drop at s) e) (next (w ∙ ap (λ (b : List ℕ). laid rgb_of (entries_named named b) t) lent))
-          where
-            next : t' ≡ laid rgb_of (entries_named named (body_at (drop at s))) t → Tabling named s start from t' (at + used_by (drop at s))
-            next v =
-                let long : length t' ≡ length t = ap length v ∙ laid-length rgb_of (entries_named named (body_at (drop at s))) t c.room in
-                record {
-                  in_set = inside_on s c.in_set (sym its-end ∙ f);
-                  room = omega (arith, long, c.room);
-                  same = long ∙ c.same;
-                  left =
-                      ap (laid rgb_of (entries_left named s (at + used_by (drop at s)))) v
-                      ∙ sym (laid-append rgb_of (entries_named named (body_at (drop at s))) (entries_left named s (at + used_by (drop at s))) t c.room)
-                      ∙ ap (λ (es : List Entry). laid rgb_of es t) (sym (at-pds named s at ok (sym its-end ∙ f) (sym its-pds ∙ g)))
-                      ∙ c.left;
-                }
+      pub tables-pds : is_pds (type_of x.header.segment_type) ≡ true → {t' : List ℕ}
+          → t' ≡ laid rgb_of (entries_named named (take (x.end - (x.at + 13)) (drop (x.at + 13) s))) t → Tabling named s start all xs t'
+      tables-pds p w = tables-on (w ∙ ap (λ (b : Bool). laid rgb_of (pick b (entries_named named (take (x.end - (x.at + 13)) (drop (x.at + 13) s))) []) t) (sym p))
+
+    pub tabled : left ≡ [] → t ≡ laid rgb_of (entries_behind named s all) start
+    tabled e = sym (laid_none rgb_of t) ∙ ap (λ (l : List PlacedSegment). laid rgb_of (entries_behind named s l) t) (sym e) ∙ c.same

@@ -11,7 +11,7 @@ use lib.ListN.{length, take, drop, length-append}
 use lib.Seq.{take_at, drop_at, drop-drop}
 use Rattle.pgs_base.specs.Bytes.{Bytes}
 use Rattle.pgs_base.specs.Outcome.{Verdict, accepted, refused, Outcome, outcome_of, and_then, unless, needing, laid, pick}
-use Rattle.pgs_base.proofs.Outcomes.{first-accepts, second_holds}
+use Rattle.pgs_base.proofs.Outcomes.{first-accepts, second_holds, holds}
 use Rattle.pgs_bitmap_check.specs.Bitmap.{reading_of, bitmap_of}
 use Rattle.pgs_bitmap.proofs.BitmapArea.{bitmap-area}
 use Rattle.pgs_color.specs.Bytes.{rgb_of}
@@ -23,25 +23,24 @@ use Rattle.pgs_plane.specs.Placing.{Image, table_color}
 use Rattle.pgs_plane.specs.Strips.{strip}
 use Rattle.pgs_plane.proofs.LastWins.{last-wins}
 use Rattle.pgs_plane.proofs.StripLaws.{strip-length}
-use Rattle.pgs_pcs.specs.PcsBody.{placement_row}
 use Rattle.pgs_pcs.specs.declared.pcs.CompositionObject.{CompositionObject}
 use Rattle.pgs_pcs.specs.declared.pcs.Pcs.{Pcs}
 use Rattle.pgs_reassembly.specs.Objects.{Chain, data_of, width_of, height_of, objects_of, objects_verdict}
 use Rattle.pgs_set.specs.Sets.{set_number, DisplaySet, through_end}
-use Rattle.pgs_reassembly.specs.Reassembly.{joined_data, object_rows, shown_by, Reassembled}
+use Rattle.pgs_reassembly.specs.Reassembly.{joined_data, object_records, Reassembled, record_data}
+use Rattle.pgs_reassembly.specs.declared.ObjectRecord.{ObjectRecord}
 use Rattle.pgs_set.specs.Walks.{pieces_at}
-use Rattle.pgs_reassembly.proofs.ViewLaws.{shown-data}
+use Rattle.pgs_reassembly.proofs.ViewLaws.{record-data}
 use Rattle.pgs_rendering.specs.Images.{look_in, bitmaps_of, area_of, bitmaps_verdict}
-use Rattle.pgs_rendering.specs.Palettes.{entries_among, color_shown}
+use Rattle.pgs_rendering.specs.Palettes.{entries_among, color_shown, empty_table}
 use Rattle.pgs_rendering.specs.Rendering.{composition_of, placements_in, colors_in, picture_of, early_verdict, content_verdict, left_by, answer_of, Rendered}
-use Rattle.pgs_rendering.specs.Rows.{Narrow, rows_joined, rows_need, rows_area, rows_reading, rows_bitmaps, all_present, look_at, placement_in, AllStorable}
-use Rattle.pgs_rendering.specs.Steps.{Listed, Opened, Placed, JoinedAndRead, Ready, Showing}
-use Rattle.pgs_rendering.proofs.ColorLaws.{table-shown}
+use Rattle.pgs_rendering.specs.Records.{records_joined, records_need, records_area, records_reading, records_bitmaps, all_present, look_at, AllStorable}
+use Rattle.pgs_rendering.specs.Steps.{Listed, Composed, JoinedAndRead, Ready, Showing}
+use Rattle.pgs_rendering.proofs.ColorLaws.{empty-shown}
 use Rattle.pgs_rendering.proofs.EntryLaws.{few-ids}
-use Rattle.pgs_rendering.proofs.NarrowLaws.{objects-narrow}
-use Rattle.pgs_rendering.proofs.ObjectLaws.{area_of_lem, bitmaps-of, rows-held, few-accepted}
-use Rattle.pgs_rendering.proofs.RowLaws.{need-of, total_of, reading-of, present-of}
-use Rattle.pgs_rendering.proofs.ShownLaws.{shown-rows, look-same}
+use Rattle.pgs_rendering.proofs.ObjectLaws.{area_of_lem, bitmaps-of, records-held, few-accepted}
+use Rattle.pgs_rendering.proofs.RecordLaws.{need-of, total_of, reading-of, present-of}
+use Rattle.pgs_rendering.proofs.ShownLaws.{look-same}
 
 -- bitmaps that are accepted take their area
 bitmaps-area : (cs : List Chain) → bitmaps_verdict cs ≡ accepted → length (bitmaps_of cs) ≡ area_of cs
@@ -79,27 +78,24 @@ left-length cs e = length-append (joined_data cs) (bitmaps_of cs) ∙ ap (λ (n 
 module _ (k : ℕ) (s : List ℕ) where
   -- where the data is joined, the records show it
   data-shown : (scratch : List ℕ) {scratch' : List ℕ} → scratch' ≡ laid accepted (joined_data (objects_of k s)) scratch
-      → map (shown_by s scratch') (object_rows (objects_of k s)) ≡ map data_of (objects_of k s)
+      → map (record_data s scratch') (object_records (objects_of k s)) ≡ map data_of (objects_of k s)
   data-shown scratch e =
-      ap (λ (l : List ℕ). map (shown_by s l) (object_rows (objects_of k s))) e
-      ∙ shown-data k s (drop (length (joined_data (objects_of k s))) scratch)
+      ap (λ (l : List ℕ). map (record_data s l) (object_records (objects_of k s))) e
+      ∙ record-data k s (drop (length (joined_data (objects_of k s))) scratch)
 
   -- the needs of a set, as the code adds them up
-  module _ {rows : List (List ℕ)} (l : Listed k s rows) where
-    pub listed-narrow : Bytes s → Narrow rows
-    listed-narrow h = rw l.objects (objects-narrow k s h)
+  module _ {rs : List ObjectRecord} (l : Listed k s rs) where
+    pub listed-need : records_need rs ≡ length (joined_data (objects_of k s)) + area_of (objects_of k s)
+    listed-need = ap records_need l.objects ∙ need-of 0 (objects_of k s)
 
-    pub listed-need : rows_need rows ≡ length (joined_data (objects_of k s)) + area_of (objects_of k s)
-    listed-need = ap rows_need l.objects ∙ need-of 0 (objects_of k s)
+    pub listed-total : records_joined rs ≡ length (joined_data (objects_of k s))
+    listed-total = ap records_joined l.objects ∙ total_of 0 (objects_of k s)
 
-    pub listed-total : rows_joined rows ≡ length (joined_data (objects_of k s))
-    listed-total = ap rows_joined l.objects ∙ total_of 0 (objects_of k s)
-
-    listed-area : rows_area rows ≡ area_of (objects_of k s)
-    listed-area = ap rows_area l.objects ∙ area_of_lem 0 (objects_of k s)
+    listed-area : records_area rs ≡ area_of (objects_of k s)
+    listed-area = ap records_area l.objects ∙ area_of_lem 0 (objects_of k s)
 
     -- 34
-    module _ (scratch plane : List ℕ) {fits : Bool} (q : fits ≡ leb (rows_need rows) (length scratch)) where
+    module _ (scratch plane : List ℕ) {fits : Bool} (q : fits ≡ leb (records_need rs) (length scratch)) where
       fits-as : leb (length (joined_data (objects_of k s)) + area_of (objects_of k s)) (length scratch) ≡ fits
       fits-as = ap (λ (n : ℕ). leb n (length scratch)) (sym listed-need) ∙ sym q
 
@@ -113,9 +109,9 @@ module _ (k : ℕ) (s : List ℕ) where
         pub scratch-room : length (joined_data (objects_of k s)) + area_of (objects_of k s) ≤ length scratch
         scratch-room = leb-true (length (joined_data (objects_of k s)) + area_of (objects_of k s)) (length scratch) (fits-as ∙ f)
 
-        module _ {pcs : Pcs} {placements : List (List ℕ)} (p : Placed k s pcs placements) where
+        module _ {pcs : Pcs} (p : pcs ≡ composition_of (set_number k s)) where
           plane-need : 4 * (composition_of (set_number k s)).width * (composition_of (set_number k s)).height ≡ 4 * pcs.width * pcs.height
-          plane-need = ap (λ (x : Pcs). 4 * x.width * x.height) (sym p.numbers)
+          plane-need = ap (λ (x : Pcs). 4 * x.width * x.height) (sym p)
 
           pub plane-short : length plane < 4 * pcs.width * pcs.height → early_verdict (objects_verdict k s) (set_number k s) (objects_of k s) (length scratch) (length plane) ≡ refused 34
           plane-short h =
@@ -132,7 +128,7 @@ module _ (k : ℕ) (s : List ℕ) where
               (unless 34 ((ap (λ (n : ℕ). leb n (length plane)) plane-need ∙ le-leb (4 * pcs.width * pcs.height) (length plane) h) j)))
 
           pub readied : 4 * pcs.width * pcs.height ≤ length plane → {scratch' : List ℕ} {v : Verdict} → JoinedAndRead k s scratch scratch' v
-              → v ≡ accepted → length scratch' ≡ length scratch → {joined : ℕ} → joined ≡ rows_joined rows → Ready k s pcs joined scratch' plane
+              → v ≡ accepted → length scratch' ≡ length scratch → {joined : ℕ} → joined ≡ records_joined rs → Ready k s joined scratch' plane
           readied h {scratch'} w a long {joined} j =
               record {
                 content = sym w.content ∙ a;
@@ -144,13 +140,13 @@ module _ (k : ℕ) (s : List ℕ) where
                     (ap (drop (length (joined_data (objects_of k s)))) w.joined
                     ∙ drop_at (joined_data (objects_of k s)) (drop (length (joined_data (objects_of k s))) scratch) (length (joined_data (objects_of k s))) refl));
                 room = omega (arith, j, listed-total, scratch-room, long);
-                plane_room = h;
+                plane_room = omega (arith, plane-need, h);
               }
 
     -- the data joined by the call that does it
-    pub joins : {n : Outcome ℕ} {list list' : List (List ℕ)} {scratch scratch' : List ℕ} → length list ≡ 64
+    pub joins : {A : Type 0} {made : ObjectRecord → A} {n : Outcome ℕ} {list list' : List A} {scratch scratch' : List ℕ} → length list ≡ 64
         → length (joined_data (objects_of k s)) ≤ length scratch
-        → Reassembled (objects_verdict k s) (objects_of k s) list list' scratch scratch' n
+        → Reassembled made (objects_verdict k s) (objects_of k s) list list' scratch scratch' n
         → scratch' ≡ laid accepted (joined_data (objects_of k s)) scratch
     joins {list = list} {scratch = scratch} few room d =
         d.written
@@ -162,88 +158,96 @@ module _ (k : ℕ) (s : List ℕ) where
         (joined_data (objects_of k s)) scratch)
 
     -- 24 to 33
-    pub reads-content : {placements : List (List ℕ)} → placements ≡ map placement_row (placements_in (set_number k s)) → {scratch scratch' : List ℕ}
+    pub reads-content : {placements : List CompositionObject} → placements ≡ placements_in (set_number k s) → {scratch scratch' : List ℕ}
         → scratch' ≡ laid accepted (joined_data (objects_of k s)) scratch
-        → {v : Verdict} → v ≡ and_then (rows_reading s scratch' rows) (unless 33 (all_present rows placements))
+        → {v : Verdict} → v ≡ and_then (records_reading s scratch' rs) (unless 33 (all_present rs placements))
         → JoinedAndRead k s scratch scratch' v
     reads-content {placements = placements} p {scratch} {scratch'} e q =
         record {
           content =
               q
-              ∙ (λ j. and_then (rows_reading s scratch' (l.objects j)) (unless 33 (all_present (l.objects j) (p j))))
+              ∙ (λ j. and_then (records_reading s scratch' (l.objects j)) (unless 33 (all_present (l.objects j) (p j))))
               ∙ (λ j. and_then (reading-of s scratch' 0 (objects_of k s) (data-shown scratch e) j) (present-of 0 (objects_of k s) (placements_in (set_number k s)) j));
           joined = e;
         }
 
     -- what cannot fail after that
-    module _ {pcs : Pcs} {joined : ℕ} {scratch plane : List ℕ} (r : Ready k s pcs joined scratch plane) where
+    module _ {joined : ℕ} {scratch plane : List ℕ} (r : Ready k s joined scratch plane) where
       accepts : bitmaps_verdict (objects_of k s) ≡ accepted
       accepts = first-accepts (bitmaps_verdict (objects_of k s)) _ r.content
 
-      pub ready-storable : Bytes s → AllStorable s rows joined scratch
-      ready-storable h =
+      pub ready-present : all_present rs (placements_in (set_number k s)) ≡ true
+      ready-present =
+          holds 33 (all_present rs (placements_in (set_number k s)))
+          (ap (λ (l : List ObjectRecord). unless 33 (all_present l (placements_in (set_number k s)))) l.objects
+          ∙ present-of 0 (objects_of k s) (placements_in (set_number k s))
+          ∙ second_holds (bitmaps_verdict (objects_of k s)) _ r.content)
+
+      pub ready-storable : AllStorable s rs joined scratch
+      ready-storable =
           record {
-            narrow = listed-narrow h;
             room = omega (arith, listed-area, r.room);
-            held = rw l.objects (rows-held 0 joined (objects_of k s) (omega (arith, r.size)));
-            reads = ap (rows_reading s scratch) l.objects ∙ reading-of s scratch 0 (objects_of k s) (data-shown scratch r.begins) ∙ accepts;
+            held = rw l.objects (records-held 0 joined (objects_of k s) (omega (arith, r.size)));
+            reads = ap (records_reading s scratch) l.objects ∙ reading-of s scratch 0 (objects_of k s) (data-shown scratch r.begins) ∙ accepts;
           }
 
-      pub ready-room : joined + rows_area rows ≤ length scratch
+      pub ready-room : joined + records_area rs ≤ length scratch
       ready-room = omega (arith, listed-area, r.room)
 
-      all_left : joined + rows_area rows ≡ length (joined_data (objects_of k s) ++ bitmaps_of (objects_of k s))
+      all_left : joined + records_area rs ≡ length (joined_data (objects_of k s) ++ bitmaps_of (objects_of k s))
       all_left = omega (arith, listed-area, r.size, left-length (objects_of k s) accepts)
 
-      module _ {scratch' : List ℕ} (e : scratch' ≡ take joined scratch ++ (rows_bitmaps s scratch rows ++ drop (joined + rows_area rows) scratch)) where
-        in_order : scratch' ≡ joined_data (objects_of k s) ++ (bitmaps_of (objects_of k s) ++ drop (joined + rows_area rows) scratch)
+      module _ {scratch' : List ℕ} (e : scratch' ≡ take joined scratch ++ (records_bitmaps s scratch rs ++ drop (joined + records_area rs) scratch)) where
+        in_order : scratch' ≡ joined_data (objects_of k s) ++ (bitmaps_of (objects_of k s) ++ drop (joined + records_area rs) scratch)
         in_order =
             e
             ∙ (λ j.
             (ap (take joined) r.begins ∙ take_at (joined_data (objects_of k s)) (drop (length (joined_data (objects_of k s))) scratch) joined (sym r.size)) j
-            ++ ((ap (rows_bitmaps s scratch) l.objects ∙ bitmaps-of s scratch 0 (objects_of k s) (data-shown scratch r.begins)) j ++ drop (joined + rows_area rows) scratch))
+            ++ ((ap (records_bitmaps s scratch) l.objects ∙ bitmaps-of s scratch 0 (objects_of k s) (data-shown scratch r.begins)) j ++ drop (joined + records_area rs) scratch))
 
         pub ready-stored : scratch' ≡ laid accepted (left_by accepted (objects_of k s)) scratch
         ready-stored =
             in_order
-            ∙ sym (append_assoc (joined_data (objects_of k s)) (bitmaps_of (objects_of k s)) (drop (joined + rows_area rows) scratch))
+            ∙ sym (append_assoc (joined_data (objects_of k s)) (bitmaps_of (objects_of k s)) (drop (joined + records_area rs) scratch))
             ∙ ap (λ (n : ℕ). (joined_data (objects_of k s) ++ bitmaps_of (objects_of k s)) ++ drop n scratch) all_left
 
-        looks : (id : ℕ) → look_at scratch' joined rows id ≡ look_in (objects_of k s) id
+        looks : (id : ℕ) → look_at scratch' joined rs id ≡ look_in (objects_of k s) id
         looks id =
-            ap (λ (rs : List (List ℕ)). look_at scratch' joined rs id) l.objects
-            ∙ look-same scratch' (drop (joined + rows_area rows) scratch) joined 0 (objects_of k s) id accepts
+            ap (λ (rs : List ObjectRecord). look_at scratch' joined rs id) l.objects
+            ∙ look-same scratch' (drop (joined + records_area rs) scratch) joined 0 (objects_of k s) id accepts
             (ap (drop joined) in_order
-            ∙ drop_at (joined_data (objects_of k s)) (bitmaps_of (objects_of k s) ++ drop (joined + rows_area rows) scratch) joined (sym r.size))
+            ∙ drop_at (joined_data (objects_of k s)) (bitmaps_of (objects_of k s) ++ drop (joined + records_area rs) scratch) joined (sym r.size))
 
         -- the plane
-        module _ {from : ℕ} (o : Opened k s from) {placements : List (List ℕ)} (p : Placed k s pcs placements) (h : Bytes s)
-            (t : List ℕ) {t' : List ℕ} (size : length t ≡ 1024)
-            (et : t' ≡ table.laid rgb_of (entries_among pcs.palette_id (through_end (pieces_at s from))) (table.cleared t)) where
+        module _ {body : List ℕ} {pts from : ℕ} (o : Composed k s body pts from) {pcs : Pcs} (p : pcs ≡ composition_of (set_number k s)) (h : Bytes s)
+            {t : List ℕ} (et : t ≡ table.laid rgb_of (entries_among pcs.palette_id (through_end (pieces_at s from))) empty_table) where
           entries : entries_among pcs.palette_id (through_end (pieces_at s from)) ≡ entries_among (composition_of (set_number k s)).palette_id (set_number k s).others
-          entries = λ j. entries_among (p.numbers j).palette_id (o.others j)
+          entries = λ j. entries_among (p j).palette_id (o.others j)
 
-          colors : (i : ℕ) → table_color t' i ≡ color_shown rgb_of (entries_among (composition_of (set_number k s)).palette_id (set_number k s).others) i
+          colors : (i : ℕ) → table_color t i ≡ color_shown rgb_of (entries_among (composition_of (set_number k s)).palette_id (set_number k s).others) i
           colors i =
               ap (λ (x : List ℕ). table_color x i) et
-              ∙ table-shown (entries_among pcs.palette_id (through_end (pieces_at s from))) t size (few-ids pcs.palette_id s from h) i
+              ∙ empty-shown (entries_among pcs.palette_id (through_end (pieces_at s from))) (few-ids pcs.palette_id s from h) i
               ∙ ap (λ (es : List Entry). color_shown rgb_of es i) entries
 
-          pub ready-painted : {answer : Verdict} {cleared' plane' : List ℕ} → Clears pcs.width pcs.height plane answer cleared'
-              → plane' ≡ painted_all (table_color t') (look_at scratch' joined rows) (map placement_in placements) pcs.width pcs.height cleared'
+          pub ready-painted : {placements : List CompositionObject} → placements ≡ placements_in (set_number k s)
+              → {answer : Verdict} {cleared' plane' : List ℕ} → Clears pcs.width pcs.height plane answer cleared'
+              → plane' ≡ painted_all (table_color t) (look_at scratch' joined rs) placements pcs.width pcs.height cleared'
               → plane' ≡ laid accepted (picture_of (colors_in rgb_of (set_number k s)) (look_in (objects_of k s)) (set_number k s)) plane
-          ready-painted c q =
+          ready-painted ep c q =
               q
               ∙ (λ j.
-              painted_all (table_color t') (look_at scratch' joined rows) (map placement_in (p.records j)) pcs.width pcs.height
-              ((c.plane ∙ ap (λ (b : Bool). pick b (cleared pcs.width pcs.height plane) plane) (le-leb (4 * pcs.width * pcs.height) (length plane) r.plane_room)) j))
-              ∙ shown-rows (table_color t') (look_at scratch' joined rows) (placements_in (set_number k s)) pcs.width pcs.height (cleared pcs.width pcs.height plane)
-              ∙ last-wins (table_color t') (λ i. refl) (look_at scratch' joined rows) (placements_in (set_number k s)) pcs.width pcs.height plane
+              painted_all (table_color t) (look_at scratch' joined rs) (ep j) pcs.width pcs.height
+              ((c.plane ∙ ap (λ (b : Bool). pick b (cleared pcs.width pcs.height plane) plane) (le-leb (4 * pcs.width * pcs.height) (length plane) room)) j))
+              ∙ last-wins (table_color t) (λ i. refl) (look_at scratch' joined rs) (placements_in (set_number k s)) pcs.width pcs.height plane
               ∙ (λ j.
-              plane_shown (λ i. colors i j) (λ id. looks id j) (placements_in (set_number k s)) (p.numbers j).width (p.numbers j).height
-              ++ drop (4 * (p.numbers j).width * (p.numbers j).height) plane)
+              plane_shown (λ i. colors i j) (λ id. looks id j) (placements_in (set_number k s)) (p j).width (p j).height
+              ++ drop (4 * (p j).width * (p j).height) plane)
               ∙ ap (λ (n : ℕ). picture_of (colors_in rgb_of (set_number k s)) (look_in (objects_of k s)) (set_number k s) ++ drop n plane)
               (sym (picture-length rgb_of (set_number k s) (objects_of k s)))
+            where
+              room : 4 * pcs.width * pcs.height ≤ length plane
+              room = omega (arith, ap (λ (x : Pcs). 4 * x.width * x.height) p, r.plane_room)
 
   -- how painting ends
   module _ {scratch plane : List ℕ} where

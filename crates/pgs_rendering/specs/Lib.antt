@@ -1,5 +1,5 @@
 pub mod Palettes
 pub mod Images
 pub mod Rendering
-pub mod Rows
+pub mod Records
 pub mod Steps

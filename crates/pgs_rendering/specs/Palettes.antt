@@ -1,6 +1,6 @@
 -- The palette of a display set. 01, 'Plane': "Only palettes whose id the PCS names apply, in order, later entries winning. An index
 -- without an entry is 00 00 00 00."
-use Rattle.std.specs.Prelude.{Bool, true, false, List, [], ◌∷◌, ◌++◌, map, ℕ}
+use Rattle.std.specs.Prelude.{Bool, true, false, List, [], ◌∷◌, ◌++◌, map, ℕ, replicate}
 use Rattle.pgs_base.specs.Outcome.{pick}
 use Rattle.pgs_views.specs.declared.segment_type.SegmentType.{SegmentType}
 use Rattle.pgs_views.specs.declared.segment_type.SegmentType.TheVariants.{Pds, Ods, Pcs, Wds, End, Other}
@@ -29,6 +29,10 @@ entries_named named body = applying named (pds_of body).palette_id (entries_in b
 abbrev pub entries_among : ℕ → List (List ℕ) → List Entry
 entries_among named [] = []
 entries_among named (x ∷ xs) = pick (is_pds (segment_type x)) (entries_named named (body_at x)) [] ++ entries_among named xs
+
+-- a table in which no index has an entry: 00 00 00 00 for each
+unfoldable pub empty_table : List ℕ
+empty_table = replicate 1024 0
 
 -- the four bytes that an index shows: "Pixels are R, G, B, alpha"
 abbrev pub color_shown : Conversion → List Entry → ℕ → List ℕ

@@ -1,38 +1,27 @@
 -- The steps of painting a display set. Private contracts cite these; that of `render` cites `Rendering`.
-use Rattle.std.specs.Prelude.{◌≡◌, List, map, ℕ, ◌+◌, ◌*◌, ◌≤◌, length}
+use Rattle.std.specs.Prelude.{◌≡◌, List, ℕ, ◌+◌, ◌*◌, ◌≤◌, length}
 use Rattle.pgs_base.specs.Outcome.{Verdict, accepted, laid}
 use Rattle.pgs_color.specs.Bytes.{rgb_of}
 use Rattle.pgs_segment.specs.Header.{pts_of}
 use Rattle.pgs_segment.specs.OneSegment.{body_at}
-use Rattle.pgs_pcs.specs.PcsBody.{pcs_verdict, placement_row}
-use Rattle.pgs_pcs.specs.declared.pcs.Pcs.{Pcs}
 use Rattle.pgs_reassembly.specs.Objects.{objects_of, objects_verdict}
 use Rattle.pgs_set.specs.Sets.{set_number, through_end}
-use Rattle.pgs_reassembly.specs.Reassembly.{joined_data, object_rows}
-use Rattle.pgs_set.specs.Walks.{InSet, pieces_at}
+use Rattle.pgs_reassembly.specs.Reassembly.{joined_data, object_records}
+use Rattle.pgs_reassembly.specs.declared.ObjectRecord.{ObjectRecord}
+use Rattle.pgs_set.specs.Walks.{pieces_at}
 use Rattle.pgs_rendering.specs.Images.{look_in, area_of}
-use Rattle.pgs_rendering.specs.Rendering.{composition_of, placements_in, colors_in, picture_of, content_verdict, left_by}
+use Rattle.pgs_rendering.specs.Rendering.{composition_of, colors_in, picture_of, content_verdict, left_by}
 
 -- a set that 1 to 23 and 36 do not refuse, with the records of its objects
-pub record Listed (k : ℕ) (s : List ℕ) (rows : List (List ℕ)) : Type 0 where
+pub record Listed (k : ℕ) (s : List ℕ) (rs : List ObjectRecord) : Type 0 where
   pub taken : objects_verdict k s ≡ accepted
-  pub objects : rows ≡ object_rows (objects_of k s)
+  pub objects : rs ≡ object_records (objects_of k s)
 
--- the segments after its PCS begin at `from`
-pub record Opened (k : ℕ) (s : List ℕ) (from : ℕ) : Type 0 where
-  pub inside : InSet s from
-  pub others : through_end (pieces_at s from) ≡ (set_number k s).others
-
--- its PCS: its body and its PTS
-pub record Composed (k : ℕ) (s body : List ℕ) (pts : ℕ) : Type 0 where
+-- its PCS, by its body and its PTS, and the segments after it, which begin at `from`
+pub record Composed (k : ℕ) (s body : List ℕ) (pts from : ℕ) : Type 0 where
   pub whole : body ≡ body_at (set_number k s).opening
-  pub good : pcs_verdict body ≡ accepted
   pub time : pts ≡ pts_of (set_number k s).opening
-
--- its numbers, and the records of its placements
-pub record Placed (k : ℕ) (s : List ℕ) (pcs : Pcs) (placements : List (List ℕ)) : Type 0 where
-  pub numbers : pcs ≡ composition_of (set_number k s)
-  pub records : placements ≡ map placement_row (placements_in (set_number k s))
+  pub others : through_end (pieces_at s from) ≡ (set_number k s).others
 
 -- joining the data and testing 24 to 33, with this verdict
 pub record JoinedAndRead (k : ℕ) (s scratch scratch' : List ℕ) (verdict : Verdict) : Type 0 where
@@ -40,12 +29,12 @@ pub record JoinedAndRead (k : ℕ) (s scratch scratch' : List ℕ) (verdict : Ve
   pub joined : scratch' ≡ laid accepted (joined_data (objects_of k s)) scratch
 
 -- what storing the bitmaps and painting need: 24 to 34 do not refuse the set, and its data is joined
-pub record Ready (k : ℕ) (s : List ℕ) (pcs : Pcs) (joined : ℕ) (scratch plane : List ℕ) : Type 0 where
+pub record Ready (k : ℕ) (s : List ℕ) (joined : ℕ) (scratch plane : List ℕ) : Type 0 where
   pub content : content_verdict (set_number k s) (objects_of k s) ≡ accepted
   pub size : joined ≡ length (joined_data (objects_of k s))
   pub begins : scratch ≡ laid accepted (joined_data (objects_of k s)) scratch
   pub room : joined + area_of (objects_of k s) ≤ length scratch
-  pub plane_room : 4 * pcs.width * pcs.height ≤ length plane
+  pub plane_room : 4 * (composition_of (set_number k s)).width * (composition_of (set_number k s)).height ≤ length plane
 
 -- the scratch and the plane after that
 pub record Showing (k : ℕ) (s scratch scratch' plane plane' : List ℕ) : Type 0 where

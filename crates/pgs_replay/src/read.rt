@@ -6,7 +6,7 @@ use pgs_cards::cards::write_cards;
 use pgs_color::ycbcr::{Rgb8, ycbcr709_to_rgb};
 use pgs_object::object::reassemble_objects;
 use pgs_ods::ods::Ods;
-use pgs_palette::palette::{Rgba8, apply, clear, get};
+use pgs_palette::palette::{Rgba8, TABLE_LEN, apply, clear, get};
 use pgs_pcs::pcs::Pcs;
 use pgs_pds::pds::Pds;
 use pgs_render::render::render;
@@ -49,7 +49,7 @@ fn print_index(rt: &impl Print, table: &[u8], index: u8) -> io::Result<()> {
 
 // The colours of indices 0 to 3 where entries are laid over a cleared table.
 fn print_colors(rt: &impl Print, entries: &[[u8; 5]], id: u8, named: u8) -> io::Result<()> {
-    let mut table = [9u8; 1024];
+    let mut table = [9u8; TABLE_LEN];
     print_update(rt, clear(&mut table))?;
     print_update(rt, apply(entries, id, named, &mut table))?;
     for index in 0..4 {

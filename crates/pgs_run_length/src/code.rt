@@ -54,6 +54,8 @@ fn third_color(second: u8, third: u8) -> u8
 }
 
 // The run of 00, this second byte and, where its code takes so many, these two more. Runs are told apart by the bytes that they take.
+// Stays by numbers, as the others that tell the four kinds of such a code apart: an enum of the kinds would be made from the byte and then
+// matched, and most readers tell only two or three of them apart, by one comparison each.
 fn run_of(second: u8, third: u8, fourth: u8) -> Run
     ensures { found (run result.count result.color) result.taken ≡ run_of second (third ∷ fourth ∷ []) }
 {
@@ -135,8 +137,8 @@ fn escape_at(data: &[u8], at: usize) -> Result<Code, Refusal>
     Ok(Code::Run(run_of(second, data[at + 2], data[at + 3])))
 }
 
-// The code at a place of the data, none at its end or past it, or why bytes are missing. A place, and not a part, since the data may lie in
-// memory that the reader stores to.
+// The code at a place of the data, none at its end or past it, or why bytes are missing. A place, and not a part: of a place past the end
+// there is no part.
 pub fn next_code(data: &[u8], at: usize) -> Result<Option<Code>, Refusal>
     ensures { code_at result ≡ code_of (drop at «data».now) }
 {

@@ -27,12 +27,12 @@ module _ (l : List ℕ) where
   pub head-decides : {k : ℕ} → header_verdict l ≡ refused k → segment_verdict l ≡ refused k
   head-decides e = ap (λ (v : Verdict). and_then v (and_then (unless 3 (leb (used_by l) (length l))) (body_verdict (segment_type l) (body_at l)))) e
 
-  pub body-past-end : header_verdict l ≡ accepted → length l - 13 < size_of l → segment_verdict l ≡ refused 3
-  body-past-end e h = simp (e, lt-leb (used_by l) (length l) (omega (arith, has-header e)))
+  pub body-past-end : header_verdict l ≡ accepted → length l < used_by l → segment_verdict l ≡ refused 3
+  body-past-end e h = simp (e, lt-leb (used_by l) (length l) h)
 
   -- then the body decides
-  pub body-decides : header_verdict l ≡ accepted → size_of l ≤ length l - 13 → segment_verdict l ≡ body_verdict (segment_type l) (body_at l)
-  body-decides e h = simp (e, le-leb (used_by l) (length l) (omega (arith, has-header e)))
+  pub body-decides : header_verdict l ≡ accepted → used_by l ≤ length l → segment_verdict l ≡ body_verdict (segment_type l) (body_at l)
+  body-decides e h = simp (e, le-leb (used_by l) (length l) h)
 
   -- the body as the code lends it is the body
   lent_is : (n : ℕ) → n ≡ size_of l → take (13 + n - 13) (drop 13 l) ≡ body_at l

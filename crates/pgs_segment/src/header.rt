@@ -1,12 +1,14 @@
 // The 13-byte head of a segment (01, module 2).
-ghost use Rattle.std.specs.Prelude.{◌≡◌, drop};
+ghost use Rattle.std.specs.Prelude.{◌≡◌, ◌+◌, drop};
 ghost use Rattle.pgs_base.specs.Outcome.{outcome};
 ghost use Rattle.pgs_segment.specs.Header.{header_fields, header_of};
+ghost use Rattle.pgs_views.specs.Kinds.{type_of};
 
 use pgs_base::refusal::Refusal;
 use pgs_fields::{u8_at, u16_at, u32_at};
+use pgs_views::segment_type::SegmentType;
 
-#[derive(Clone, Copy)]
+#[derive(Clone, Copy, Debug, PartialEq, Eq)]
 pub struct SegmentHeader {
     pub pts: u32,
     pub dts: u32,
@@ -30,12 +32,33 @@ impl SegmentHeader {
         if buf[1] != 0x47 {
             return Err(Refusal::BadMagic);
         }
-        Ok(SegmentHeader {
-            pts: u32_at(buf, 2),
-            dts: u32_at(buf, 6),
-            segment_type: u8_at(buf, 10),
-            segment_size: u16_at(buf, 11),
-        })
+        Ok(SegmentHeader::fields(buf))
+    }
+
+    // The fields of the head at the front of `l`, whatever stands there.
+    fn fields(l: &[u8]) -> SegmentHeader
+        ensures { result ≡ header_fields l.now }
+    {
+        SegmentHeader {
+            pts: u32_at(l, 2),
+            dts: u32_at(l, 6),
+            segment_type: u8_at(l, 10),
+            segment_size: u16_at(l, 11),
+        }
+    }
+
+    // The kind of the segment.
+    pub fn kind(self) -> SegmentType
+        ensures { result ≡ type_of self.segment_type }
+    {
+        SegmentType::from(self.segment_type)
+    }
+
+    // How many bytes the segment takes: its head and its body.
+    pub fn used(self) -> usize
+        ensures { result ≡ 13 + self.segment_size }
+    {
+        SegmentHeader::SIZE + usize::from(self.segment_size)
     }
 }
 
@@ -43,19 +66,6 @@ impl SegmentHeader {
 pub fn header_at(s: &[u8], at: usize) -> SegmentHeader
     ensures { result ≡ header_fields (drop at s.now) }
 {
-    if s.len() < at {
-        return SegmentHeader {
-            pts: 0,
-            dts: 0,
-            segment_type: 0,
-            segment_size: 0,
-        };
-    }
-    let l = &s[at..];
-    SegmentHeader {
-        pts: u32_at(l, 2),
-        dts: u32_at(l, 6),
-        segment_type: u8_at(l, 10),
-        segment_size: u16_at(l, 11),
-    }
+    let rest = s.get(at..).unwrap_or(&[]);
+    SegmentHeader::fields(rest)
 }

@@ -18,7 +18,7 @@ use pgs_views::segment_type::SegmentType;
 use pgs_wds::wds::check_wds;
 
 // The kind of a body with its numbers; its list or data stands in the body.
-#[derive(Clone, Copy)]
+#[derive(Clone, Copy, Debug, PartialEq, Eq)]
 pub enum SegmentBody {
     Pcs(Pcs),
     Wds,
@@ -29,14 +29,14 @@ pub enum SegmentBody {
 }
 
 // A head, and where the list of the body stands that follows it.
-#[derive(Clone, Copy)]
+#[derive(Clone, Copy, Debug, PartialEq, Eq)]
 pub struct Frame {
     pub header: SegmentHeader,
     pub list: BodyList,
 }
 
 // One segment: its body starts 13 bytes after its own start, and the whole takes `used` bytes.
-#[derive(Clone, Copy)]
+#[derive(Clone, Copy, Debug, PartialEq, Eq)]
 pub struct Segment {
     pub header: SegmentHeader,
     pub body: SegmentBody,
@@ -104,12 +104,12 @@ pub fn check_segment(buf: &[u8]) -> Result<Frame, Refusal>
     ensures { outcome result ≡ outcome_of (segment_verdict buf.now) (frame_of buf.now) }
 {
     let header = SegmentHeader::parse(buf)?;
-    let size = header.segment_size as usize;
-    if buf.len() - SegmentHeader::SIZE < size {
+    let used = header.used();
+    if buf.len() < used {
         return Err(Refusal::TruncatedBody);
     }
-    let kind = SegmentType::from(header.segment_type);
-    let list = check_body(kind, &buf[SegmentHeader::SIZE..SegmentHeader::SIZE + size])?;
+    let kind = header.kind();
+    let list = check_body(kind, &buf[SegmentHeader::SIZE..used])?;
     Ok(Frame { header, list })
 }
 
@@ -120,8 +120,8 @@ impl Segment {
     {
         let frame = check_segment(buf)?;
         let header = frame.header;
-        let used = SegmentHeader::SIZE + header.segment_size as usize;
-        let kind = SegmentType::from(header.segment_type);
+        let used = header.used();
+        let kind = header.kind();
         let body = SegmentBody::numbers(kind, &buf[SegmentHeader::SIZE..used]);
         Ok(Segment {
             header,

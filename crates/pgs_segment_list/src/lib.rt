@@ -42,7 +42,7 @@ pub fn parse_segments(s: &[u8], list: &mut [SegmentRecord]) -> Result<usize, Ref
 }
 
 // A list of eight records by value, and what a call that was lent it answered.
-#[derive(Clone, Copy)]
+#[derive(Clone, Copy, Debug, PartialEq, Eq)]
 pub struct Eight {
     pub answer: Result<usize, Refusal>,
     pub list: [SegmentRecord; 8],

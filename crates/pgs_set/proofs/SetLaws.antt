@@ -1,30 +1,28 @@
 -- The loops that count, pass, find and store the sets of a stream. Assumes nothing.
 use mathlib.Core.Path.{◌≡◌, refl, sym, ap, ◌∙◌}
 use mathlib.Core.Bool.{Bool, true, false}
-use mathlib.Core.List.{List, [], ◌∷◌, map}
+use mathlib.Core.List.{List, [], ◌∷◌}
 use Prim.Native.Nat.{ℕ, ◌+◌, ◌≤◌, ◌<◌}
 use native.Mathlib.Omega.{arith}
-use native.Mathlib.Nat.{add-zero}
 use borrow.Author.Tests.{leb-true, leb-false}
 use lib.Dec.{leb}
-use lib.ListN.{length, take, drop, set, get_or, length-drop, length-map}
-use lib.Seq.{drop-drop, get_or-drop}
+use lib.ListN.{length, take, drop, get_or, length-drop, length-map}
 use Rattle.pgs_base.specs.Outcome.{Verdict, accepted, refused, gives, refuses, outcome_of, and_then, pick}
-use Rattle.pgs_base.proofs.Front.{Front, begins, stored}
-use Rattle.pgs_base.proofs.Outcomes.{gave, gave-value, turned_down, first-accepts, second_holds}
-use Rattle.pgs_segment.specs.Header.{pts_of, header_fields}
+use Rattle.pgs_base.proofs.Outcomes.{gave, gave-value, turned_down}
+use Rattle.pgs_segment.specs.Header.{header_fields}
 use Rattle.pgs_views.specs.Kinds.{type_of}
 use Rattle.pgs_segment.specs.OneSegment.{segment_type, used_by}
-use Rattle.pgs_stream.specs.Stream.{step_verdict, stream_verdict}
+use Rattle.pgs_stream.specs.Stream.{Reading, read_of, step_verdict, stopped_by, stream_verdict}
+use Rattle.pgs_stream.proofs.StreamLaws.{read-on, read-stops, step-within, stopped-at}
 use Rattle.pgs_segment.specs.declared.header.SegmentHeader.{SegmentHeader}
 use Rattle.pgs_views.specs.declared.segment_type.SegmentType.{SegmentType}
 use Rattle.pgs_views.specs.declared.segment_type.SegmentType.TheVariants.{Pds, Ods, Pcs, Wds, End, Other}
 use Rattle.pgs_set.proofs.Choices.{pick_first, pick_second}
-use Rattle.pgs_set.proofs.WalkLaws.{stops-here, step-here, pieces-here, pieces_end, good-end, within-here, stream-after, group-here, stands_on, kind-accepted, type-of-piece, piece-length, head-field}
+use Rattle.pgs_set.proofs.WalkLaws.{step-here, pieces-here, pieces_end, within-here, stands_on, kind-accepted, type-of-piece, piece-length}
 use Rattle.pgs_set.specs.Sets.{DisplaySet, no_set, group_verdict, kind_verdict, state_after, is_pcs, is_end, opens}
 use Rattle.pgs_set.specs.Sets.{through_end, bytes_in, sets_from, sets_of, set_count, sets_verdict, end_of, set_row}
 use Rattle.pgs_set.specs.Sets.{set_rows}
-use Rattle.pgs_set.specs.Walks.{pieces_at, Standing, InSet, Ends, SetStands, end_from, set_at}
+use Rattle.pgs_set.specs.Walks.{pieces_at, Standing, InSet, Ends, end_from, set_at}
 use Rattle.pgs_set.specs.declared.grouping.Grouping.{Grouping}
 use Rattle.pgs_set.specs.declared.grouping.Grouping.TheVariants.{Outside, Inside}
 
@@ -62,14 +60,6 @@ module _ (s : List ℕ) (at : ℕ) (ok : step_verdict (drop at s) ≡ accepted) 
       ∷ sets_from (at + piece-length (drop at s) ok j) (pieces_at s (at + used_by (drop at s))))
       (sets_from (at + piece-length (drop at s) ok j) (pieces_at s (at + used_by (drop at s)))))
 
-  pub sets-count : length (sets_from at (pieces_at s at))
-      ≡ opens (segment_type (drop at s)) + length (sets_from (at + used_by (drop at s)) (pieces_at s (at + used_by (drop at s))))
-  sets-count = ap length sets-here ∙ go (is_pcs (segment_type (drop at s))) _ _
-    where
-      go : (b : Bool) (d : DisplaySet) (ds : List DisplaySet) → length (pick b (d ∷ ds) ds) ≡ pick b 1 0 + length ds
-      go true d ds = omega arith
-      go false d ds = omega arith
-
   pub through_here : end_from s at ≡ at + used_by (drop at s) + pick (is_end (segment_type (drop at s))) 0 (bytes_in (through_end (pieces_at s (at + used_by (drop at s)))))
   through_here =
       ap (λ (xs : List (List ℕ)). at + bytes_in (through_end xs)) (pieces-here s at ok)
@@ -80,64 +70,100 @@ module _ (s : List ℕ) (at : ℕ) (ok : step_verdict (drop at s) ≡ accepted) 
       go true xs = omega arith
       go false xs = omega arith
 
--- the segments before `at` are read and grouped: n sets were opened, and this state is reached
-pub record Counting (s : List ℕ) (g : Grouping) (at n : ℕ) : Type 0 where
-  pub inside : at ≤ length s
-  pub few : n ≤ at
-  pub verdict : and_then (stream_verdict (drop at s)) (group_verdict g (pieces_at s at)) ≡ sets_verdict s
-  pub count : n + length (sets_from at (pieces_at s at)) ≡ set_count s
+-- where segments stand changes no count of their sets
+sets-shift : (a b : ℕ) (xs : List (List ℕ)) → length (sets_from a xs) ≡ length (sets_from b xs)
+sets-shift a b [] = refl
+sets-shift a b (x ∷ xs) = go (is_pcs (segment_type x)) (sets-shift (a + length x) (b + length x) xs)
+  where
+    go : (p : Bool) → length (sets_from (a + length x) xs) ≡ length (sets_from (b + length x) xs)
+        → length (pick p (record { place = a; opening = x; others = through_end xs } ∷ sets_from (a + length x) xs) (sets_from (a + length x) xs))
+        ≡ length (pick p (record { place = b; opening = x; others = through_end xs } ∷ sets_from (b + length x) xs) (sets_from (b + length x) xs))
+    go true e = omega arith
+    go false e = e
+
+-- the sets that a segment and those behind it open
+sets-first : (x : List ℕ) (xs : List (List ℕ)) → length (sets_from 0 (x ∷ xs)) ≡ opens (segment_type x) + length (sets_from 0 xs)
+sets-first x xs = go (is_pcs (segment_type x)) (sets-shift (0 + length x) 0 xs)
+  where
+    go : (p : Bool) → length (sets_from (0 + length x) xs) ≡ length (sets_from 0 xs)
+        → length (pick p (record { place = 0; opening = x; others = through_end xs } ∷ sets_from (0 + length x) xs) (sets_from (0 + length x) xs))
+        ≡ pick p 1 0 + length (sets_from 0 xs)
+    go true e = omega arith
+    go false e = omega arith
+
+-- the segments before what is left are read and grouped: n sets were opened, and this state is reached
+pub record Counting (s : List ℕ) (g : Grouping) (l : List ℕ) (n : ℕ) : Type 0 where
+  pub few : n + length l ≤ length s
+  pub verdict : and_then (stream_verdict l) (group_verdict g (read_of l).pieces) ≡ sets_verdict s
+  pub count : n + length (sets_from 0 (read_of l).pieces) ≡ set_count s
 
 module _ (s : List ℕ) where
-  pub counting : Counting s Outside 0 0
+  pub counting : Counting s Outside s 0
   unfolding sets_of
-  counting = record { inside = omega arith; few = omega arith; verdict = refl; count = omega arith }
+  counting = record { few = omega arith; verdict = refl; count = omega arith }
 
-  module _ {g : Grouping} {at n : ℕ} (c : Counting s g at n) where
+  module _ {g : Grouping} {l : List ℕ} {n : ℕ} (c : Counting s g l n) where
     -- the next segment cannot be read
-    pub counted-short : at < length s → {k : ℕ} → step_verdict (drop at s) ≡ refused k → sets_verdict s ≡ refused k
+    pub counted-short : 0 < length l → {k : ℕ} → step_verdict l ≡ refused k → sets_verdict s ≡ refused k
     counted-short m e =
-        sym c.verdict ∙ ap (λ (v : Verdict). and_then v (group_verdict g (pieces_at s at))) (stops-here s at m e)
+        sym c.verdict
+        ∙ ap (λ (v : Verdict). and_then v (group_verdict g (read_of l).pieces))
+        (ap (λ (x : Reading). stopped_by x.rest) (read-stops l e) ∙ (stopped-at l m ∙ e))
 
     -- it is read: its head and its kind
-    module _ (ok : step_verdict (drop at s) ≡ accepted) {h : SegmentHeader} {t : SegmentType} (e : h ≡ header_fields (drop at s)) (q : t ≡ type_of h.segment_type) where
+    module _ (ok : step_verdict l ≡ accepted) {h : SegmentHeader} {t : SegmentType} (e : h ≡ header_fields l) (q : t ≡ type_of h.segment_type) where
       -- the verdict of what is left, by that of its kind
       left : {v : Verdict} → kind_verdict g t ≡ v
-          → and_then (stream_verdict (drop (at + (13 + h.segment_size)) s)) (and_then v (group_verdict (state_after g t) (pieces_at s (at + (13 + h.segment_size)))))
+          → and_then (stream_verdict (drop (13 + h.segment_size) l)) (and_then v (group_verdict (state_after g t) (read_of (drop (13 + h.segment_size) l)).pieces))
           ≡ sets_verdict s
       left {v} taken =
-          rw (size-read (drop at s) e)
-          ((λ j. and_then (stream-after s at ok j)
-          (and_then (sym taken j) (group_verdict (state_after g t) (pieces_at s (at + used_by (drop at s))))))
-          ∙ ap (and_then (stream_verdict (drop at s)))
-          (ap
-          (λ (x : SegmentType). and_then (kind_verdict g x)
-          (group_verdict (state_after g x) (pieces_at s (at + used_by (drop at s))))) (kind-read (drop at s) e q)
-          ∙ sym (group-here s at ok g))
+          rw (size-read l e)
+          ((λ j. and_then (sym (ap (λ (x : Reading). stopped_by x.rest) (read-on l ok)) j)
+          (and_then (sym taken j) (group_verdict (state_after g t) (read_of (drop (used_by l) l)).pieces)))
+          ∙ ap (and_then (stream_verdict l)) (by-kind (kind-read l e q) ∙ sym grouped-here)
           ∙ c.verdict)
+        where
+          grouped-here : group_verdict g (read_of l).pieces
+              ≡ and_then (kind_verdict g (segment_type l)) (group_verdict (state_after g (segment_type l)) (read_of (drop (used_by l) l)).pieces)
+          grouped-here =
+              ap (λ (x : Reading). group_verdict g x.pieces) (read-on l ok)
+              ∙ ap (λ (x : SegmentType). and_then (kind_verdict g x) (group_verdict (state_after g x) (read_of (drop (used_by l) l)).pieces)) (type-of-piece l ok)
+
+          by-kind : {x y : SegmentType} → x ≡ y
+              → and_then (kind_verdict g x) (group_verdict (state_after g x) (read_of (drop (used_by l) l)).pieces)
+              ≡ and_then (kind_verdict g y) (group_verdict (state_after g y) (read_of (drop (used_by l) l)).pieces)
+          by-kind p = ap (λ (x : SegmentType). and_then (kind_verdict g x) (group_verdict (state_after g x) (read_of (drop (used_by l) l)).pieces)) p
+
+      count-here : length (sets_from 0 (read_of l).pieces) ≡ opens t + length (sets_from 0 (read_of (drop (used_by l) l)).pieces)
+      count-here =
+          ap (λ (x : Reading). length (sets_from 0 x.pieces)) (read-on l ok)
+          ∙ sets-first (take (used_by l) l) (read_of (drop (used_by l) l)).pieces
+          ∙ ap (λ (x : SegmentType). opens x + length (sets_from 0 (read_of (drop (used_by l) l)).pieces)) (type-of-piece l ok ∙ sym (kind-read l e q))
 
       pub counts-on : {g' : Grouping} {k : ℕ} → gives g' ≡ outcome_of (kind_verdict g t) (state_after g t) → k ≡ opens t
-          → Counting s g' (at + (13 + h.segment_size)) (n + k)
+          → Counting s g' (drop (13 + h.segment_size) l) (n + k)
       counts-on {g'} {k} r o =
           let next : g' ≡ state_after g t = gave-value (kind_verdict g t) (state_after g t) r in
-          let opened : k ≡ opens (segment_type (drop at s)) = o ∙ ap opens (kind-read (drop at s) e q) in
-          let size : 13 + h.segment_size ≡ used_by (drop at s) = size-read (drop at s) e in
           rw next
           (record {
-            inside = read-within s at ok e;
-            few = omega (arith, c.few, opens-few (segment_type (drop at s)));
+            few = rw (size-read l e) (omega (arith, c.few, opens-few t, o, step-within l ok, length-drop (used_by l) l));
             verdict = left (gave (kind_verdict g t) (state_after g t) r);
-            count = rw size (omega (arith, sets-count s at ok, c.count));
+            count = rw (size-read l e) (omega (arith, count-here, c.count, o));
           })
 
       pub counted-refusal : {k : ℕ} → refuses k ≡ outcome_of (kind_verdict g t) (state_after g t)
-          → and_then (stream_verdict (drop (at + (13 + h.segment_size)) s)) (refused k) ≡ sets_verdict s
+          → and_then (stream_verdict (drop (13 + h.segment_size) l)) (refused k) ≡ sets_verdict s
       counted-refusal r = left (turned_down (kind_verdict g t) (state_after g t) r)
 
-    pub counted-sets : length s ≤ at → outcome_of (group_verdict g []) n ≡ outcome_of (sets_verdict s) (set_count s)
+    pub counted-sets : length l ≡ 0 → outcome_of (group_verdict g []) n ≡ outcome_of (sets_verdict s) (set_count s)
     counted-sets h =
-        let none = pieces_end s at h in
-        let all : n ≡ set_count s = omega (arith, c.count, ap (λ (xs : List (List ℕ)). length (sets_from at xs)) none) in
-        λ j. outcome_of (((λ i. and_then (sym (good-end s at h) i) (group_verdict g (sym none i))) ∙ c.verdict) j) (all j)
+        let none : read_of l ≡ record { pieces = []; rest = [] } = ap read_of (empty l h) ∙ read-stops [] refl in
+        let all : n ≡ set_count s = omega (arith, c.count, ap (λ (x : Reading). length (sets_from 0 x.pieces)) none) in
+        λ j. outcome_of ((sym (ap (λ (x : Reading). and_then (stopped_by x.rest) (group_verdict g x.pieces)) none) ∙ c.verdict) j) (all j)
+      where
+        empty : (xs : List ℕ) → length xs ≡ 0 → xs ≡ []
+        empty [] e = refl
+        empty (x ∷ xs) e = absurd (omega arith)
 
 -- a refusal answers no value
 pub refusal-alone : (v : Verdict) (k a b : ℕ) → outcome_of (and_then v (refused k)) a ≡ outcome_of (and_then v (refused k)) b
@@ -244,9 +270,6 @@ module _ (s : List ℕ) where
       pub passes-read : b ≡ false → Passing s from (at + (13 + h.segment_size))
       passes-read f = rw (size-read (drop at s) e) (passes_on (sym its-end ∙ f))
 
-      pub passed-read : b ≡ true → Ends s from (at + (13 + h.segment_size))
-      passed-read f = rw (size-read (drop at s) e) (passed (sym its-end ∙ f))
-
   -- a set to come begins here with its PCS
   module _ {at : ℕ} (st : Standing Outside s at) where
     pub outside-here : at < length s → step_verdict (drop at s) ≡ accepted
@@ -287,112 +310,6 @@ module _ (s : List ℕ) where
             e.place
             ∙ ap (λ (n : ℕ). at + n + bytes_in (through_end (pieces_at s (at + used_by (drop at s))))) (sym (piece-length (drop at s) (outside-here h)))
             ∙ ap end_of (sym set_here)
-
-pub ends_read : (s : List ℕ) (at : ℕ) {r : ℕ} {h : SegmentHeader} → h ≡ header_fields (drop at s) → Ends s (at + (13 + h.segment_size)) r
-    → Ends s (at + used_by (drop at s)) r
-ends_read s at e x = rw (size-read (drop at s) e) at x
-
--- i sets are passed, and the next one, if there is one, begins at `at`
-pub record Finding (s : List ℕ) (i at : ℕ) : Type 0 where
-  pub standing : Standing Outside s at
-  pub left : sets_from at (pieces_at s at) ≡ drop i (sets_of s)
-
-module _ (s : List ℕ) where
-  pub finding : sets_verdict s ≡ accepted → Finding s 0 0
-  unfolding sets_of
-  finding e =
-      record {
-        standing = record { inside = omega arith; good = first-accepts (stream_verdict s) _ e; grouped = second_holds (stream_verdict s) _ e };
-        left = refl;
-      }
-
-  module _ {i at : ℕ} (f : Finding s i at) where
-    -- a set is left, so a segment is
-    pub finds-more : i < set_count s → at < length s
-    finds-more m = go (leb (length s) at) refl
-      where
-        go : (b : Bool) → leb (length s) at ≡ b → at < length s
-        go false e = leb-false (length s) at e
-        go true e =
-            absurd
-            (omega
-            (arith, ap length f.left, length-drop i (sets_of s), ap (λ (xs : List (List ℕ)). length (sets_from at xs)) (pieces_end s at (leb-true (length s) at e))))
-
-    module _ (m : i < set_count s) {r : ℕ} (e : Ends s (at + used_by (drop at s)) r) where
-      pub finds-on : Finding s (i + 1) r
-      finds-on =
-          record {
-            standing = e.after;
-            left =
-                ap (drop 1) (sym (sets-after s f.standing (finds-more m) e) ∙ f.left)
-                ∙ drop-drop 1 i (sets_of s);
-          }
-
-      -- the sets left, the next one first
-      pub next-set : drop i (sets_of s) ≡ set_at s at ∷ drop (i + 1) (sets_of s)
-      next-set = sym f.left ∙ sets-after s f.standing (finds-more m) e ∙ ap (λ (ds : List DisplaySet). set_at s at ∷ ds) finds-on.left
-
-    -- by the head that was read
-    pub opens-read : i < set_count s → {h : SegmentHeader} → h ≡ header_fields (drop at s) → InSet s (at + (13 + h.segment_size))
-    opens-read m e = rw (size-read (drop at s) e) (opens-here s f.standing (finds-more m))
-
-    pub found-set : i < set_count s → SetStands s i at
-    found-set m =
-        record {
-          standing = f.standing;
-          more = finds-more m;
-          found = ap (λ (ds : List DisplaySet). get_or ds 0 no_set) f.left ∙ get_or-drop i (sets_of s) 0 no_set ∙ ap (λ (n : ℕ). get_or (sets_of s) n no_set) (add-zero i);
-        }
-
--- i of n records are stored
-pub record Storing (s : List ℕ) (n : ℕ) (start now : List (List ℕ)) (i at : ℕ) : Type 0 where
-  pub finding : Finding s i at
-  pub few : i ≤ n
-  pub front : Front start (set_rows s) now (map set_row (drop i (sets_of s))) i
-
-module _ (s : List ℕ) (n : ℕ) (all : n ≡ set_count s) where
-  pub storing : (start : List (List ℕ)) → sets_verdict s ≡ accepted → Storing s n start start 0 0
-  storing start e = record { finding = finding s e; few = omega arith; front = begins start (set_rows s) }
-
-  module _ {start now : List (List ℕ)} {i at : ℕ} (c : Storing s n start now i at) where
-    pub stores-on : i < n → n ≤ length start → {r : ℕ} → Ends s (at + used_by (drop at s)) r → {h : SegmentHeader} → h ≡ header_fields (drop at s)
-        → Storing s n start (set now i (at ∷ r ∷ h.pts ∷ [])) (i + 1) r
-    stores-on m room {r} e {h} q =
-        record {
-          finding = finds-on s c.finding m' e;
-          few = omega arith;
-          front = stored {now = now} (at ∷ r ∷ h.pts ∷ []) (rw next at c.front) (omega (arith, c.front.same));
-        }
-      where
-        m' : i < set_count s
-        m' = omega (arith, all)
-
-        more : at < length s
-        more = finds-more s c.finding m'
-
-        its : set_at s at
-            ≡ record { place = at; opening = take (used_by (drop at s)) (drop at s); others = through_end (pieces_at s (at + used_by (drop at s))) }
-        its = set_here s c.finding.standing more
-
-        row : set_row (set_at s at) ≡ at ∷ r ∷ h.pts ∷ []
-        row =
-            λ j. ap (λ (d : DisplaySet). d.place) its j
-            ∷ sym (set-ends s c.finding.standing more e) j
-            ∷ (ap (λ (d : DisplaySet). pts_of d.opening) its ∙ head-field 4 2 (drop at s) (outside-here s c.finding.standing more) (omega arith) ∙ sym (ap (λ (x : SegmentHeader). x.pts) q)) j
-            ∷ []
-
-        next : map set_row (drop i (sets_of s)) ≡ (at ∷ r ∷ h.pts ∷ []) ∷ map set_row (drop (i + 1) (sets_of s))
-        next =
-            ap (map set_row) (next-set s c.finding m' e)
-            ∙ ap (λ (x : List ℕ). x ∷ map set_row (drop (i + 1) (sets_of s))) row
-
-    -- none is left: all are stored
-    pub stored-front : n ≤ i → Front start (set_rows s) now [] i
-    stored-front h = rw (none (drop i (sets_of s)) (omega (arith, length-drop i (sets_of s)))) at c.front
-      where
-        none : (ds : List DisplaySet) → length ds ≡ 0 → map set_row ds ≡ []
-        none [] e = refl
-        none (d ∷ ds) e = absurd (omega arith)
 
 -- a record for each set
 pub set-rows : (s : List ℕ) → length (set_rows s) ≡ set_count s

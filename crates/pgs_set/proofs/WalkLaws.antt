@@ -9,7 +9,7 @@ use Rattle.pgs_base.specs.Bytes.{num}
 use Rattle.pgs_base.specs.Outcome.{accepted, refused, and_then}
 use Rattle.pgs_base.proofs.Bytes.{num-take}
 use Rattle.pgs_base.proofs.Outcomes.{first-accepts, second_holds, not-both, not-refused}
-use Rattle.pgs_segment.specs.Header.{header_verdict}
+use Rattle.pgs_segment.specs.Header.{header_fields, header_verdict}
 use Rattle.pgs_views.specs.Kinds.{type_of}
 use Rattle.pgs_segment.specs.OneSegment.{segment_type, segment_verdict, used_by}
 use Rattle.pgs_stream.specs.Stream.{Reading, step_verdict, read_of, stopped_by, stream_verdict}
@@ -34,6 +34,15 @@ head-field w p l e h = num-take w p (used_by l) l (omega arith) (step-within l e
 pub type-of-piece : (l : List ℕ) → step_verdict l ≡ accepted → segment_type (take (used_by l) l) ≡ segment_type l
 type-of-piece l e = ap type_of (head-field 1 10 l e (omega arith))
 
+pub piece-head : (l : List ℕ) → step_verdict l ≡ accepted → header_fields (take (used_by l) l) ≡ header_fields l
+piece-head l e =
+    λ j. record {
+      pts = head-field 4 2 l e (omega arith) j;
+      dts = head-field 4 6 l e (omega arith) j;
+      segment_type = head-field 1 10 l e (omega arith) j;
+      segment_size = head-field 2 11 l e (omega arith) j;
+    }
+
 pub piece-length : (l : List ℕ) → step_verdict l ≡ accepted → length (take (used_by l) l) ≡ used_by l
 piece-length l e = length-take-le (used_by l) l (step-within l e)
 
@@ -55,9 +64,6 @@ module _ (s : List ℕ) (at : ℕ) where
       none : (l : List ℕ) → length l ≡ 0 → l ≡ []
       none [] e = refl
       none (x ∷ l) e = absurd (omega arith)
-
-  pub good-end : length s ≤ at → stream_verdict (drop at s) ≡ accepted
-  good-end h = ap (λ (l : List ℕ). stream_verdict l) (empty-end h) ∙ ap (λ (x : Reading). stopped_by x.rest) (read-stops [] refl)
 
   pub pieces_end : length s ≤ at → pieces_at s at ≡ []
   pieces_end h = ap (λ (l : List ℕ). (read_of l).pieces) (empty-end h) ∙ ap (λ (x : Reading). x.pieces) (read-stops [] refl)

@@ -1,2 +1,4 @@
+pub mod Records
+pub mod Segments
 pub mod Sets
 pub mod Walks

@@ -38,6 +38,11 @@ pub record Ends (s : List ℕ) (at r : ℕ) : Type 0 where
   pub after : Standing Outside s r
   pub on : at < r
 
+-- a set begins with its PCS at this place
+pub record SetBegins (s : List ℕ) (at : ℕ) : Type 0 where
+  pub standing : Standing Outside s at
+  pub more : at < length s
+
 -- the PCS of set number k stands at r
 pub record SetStands (s : List ℕ) (k r : ℕ) : Type 0 where
   pub standing : Standing Outside s r

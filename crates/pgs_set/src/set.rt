@@ -1,22 +1,21 @@
 // The display sets of a stream (01, module 6).
-ghost use Rattle.std.specs.Prelude.{◌≡◌, ◌≤◌, ◌<◌, [], length};
-ghost use Rattle.pgs_base.specs.Outcome.{accepted, refused, and_then, outcome, outcome_of, laid, Delivered};
+ghost use Rattle.std.specs.Prelude.{◌≡◌, [], length};
+ghost use Rattle.pgs_base.specs.Outcome.{refused, and_then, outcome, outcome_of, Delivered};
 ghost use Rattle.pgs_base.specs.Refusals.{number_of};
 ghost use Rattle.pgs_stream.specs.Stream.{stream_verdict};
 ghost use Rattle.pgs_set.specs.Sets.{
   group_verdict,
   is_end,
-  opens,
+  is_pcs,
   set_count,
   set_rows,
   sets_verdict,
 };
-ghost use Rattle.pgs_set.specs.Walks.{SetStands, FoundSet};
+ghost use Rattle.pgs_set.specs.Walks.{FoundSet};
 
+use crate::display_sets::DisplaySets;
 use crate::grouping::{Grouping, group_segment};
-use crate::open_set::OpenSet;
 use pgs_base::refusal::Refusal;
-use pgs_segment::header::{SegmentHeader, header_at};
 use pgs_segment::segment::check_segment;
 use pgs_stream::stream::count_segments;
 use pgs_views::segment_type::SegmentType;
@@ -32,11 +31,13 @@ pub struct SetRecord {
     pub pts: u32,
 }
 
-// 1 where a segment of this kind opens a set, else 0.
-fn opened_by(kind: SegmentType) -> usize
-    ensures { result ≡ opens kind }
+// Whether a segment of this kind opens a set.
+// Stays a function: of a derived `==` a proof gets a comparison of the parts of the two values (`denote.Enum.Compared`), which a lemma of six
+// cases would have to turn into the specification's `is_pcs`; here there is none.
+fn is_pcs(kind: SegmentType) -> bool
+    ensures { result ≡ is_pcs kind }
 {
-    usize::from(matches!(kind, SegmentType::Pcs))
+    matches!(kind, SegmentType::Pcs)
 }
 
 // How the grouping of a stream ends: 15 where a set is open.
@@ -63,23 +64,22 @@ fn refused_before(rest: &[u8], why: Refusal) -> Result<usize, Refusal>
 pub fn group_display_sets(s: &[u8]) -> Result<usize, Refusal>
     ensures { outcome result ≡ outcome_of (sets_verdict s.now) (set_count s.now) }
 {
+    let mut rest = s;
     let mut state = Grouping::Outside;
-    let mut at: usize = 0;
     let mut n: usize = 0;
-    // Stays a loop: the step is the size of the segment just read, which no range counts.
-    while at < s.len() {
-        let frame = check_segment(&s[at..])?;
-        let header = frame.header;
-        let next = at + (SegmentHeader::SIZE + header.segment_size as usize);
-        let kind = SegmentType::from(header.segment_type);
+    // Stays a loop: each step may refuse, and an iterator of `Result`s would have to be stopped at its first `Err` by a `?` in a loop
+    // all the same.
+    while !rest.is_empty() {
+        let header = check_segment(rest)?.header;
+        let kind = header.kind();
+        rest = &rest[header.used()..];
         match group_segment(state, kind) {
             Err(why) => {
-                return refused_before(&s[next..], why);
+                return refused_before(rest, why);
             }
             Ok(after) => {
                 state = after;
-                at = next;
-                n += opened_by(kind);
+                n += usize::from(is_pcs(kind));
             }
         }
     }
@@ -87,48 +87,25 @@ pub fn group_display_sets(s: &[u8]) -> Result<usize, Refusal>
 }
 
 // Whether a segment of this kind closes a set.
+// Stays a function: of a derived `==` a proof gets a comparison of the parts of the two values (`denote.Enum.Compared`), which a lemma of six
+// cases would have to turn into the specification's `is_end`; here there is none.
 pub fn is_end(kind: SegmentType) -> bool
     ensures { result ≡ is_end kind }
 {
     matches!(kind, SegmentType::End)
 }
 
-// The place of the PCS of set number k, which is known to exist.
-fn set_place(s: &[u8], k: usize) -> usize
-    requires s_value { sets_verdict s.now ≡ accepted }
-    requires k_bound { k < set_count s.now }
-    ensures { SetStands s.now k result }
-{
-    let mut at: usize = 0;
-    for _ in 0..k {
-        let header = header_at(s, at);
-        let open = OpenSet {
-            stream: s,
-            from: at + (SegmentHeader::SIZE + header.segment_size as usize),
-        };
-        at = open.end();
-    }
-    at
-}
-
-// Stores the records of a stream whose sets are known to be accepted.
+// Stores the records of the sets.
 // Stays a row of numbers: the C interface lends the list.
-fn fill_sets(s: &[u8], n: usize, sets: &mut [[u64; 3]])
-    requires s_value { sets_verdict s.now ≡ accepted }
-    requires n_value { n ≡ set_count s.now }
-    requires n_in_bounds { n ≤ length sets.old }
-    ensures { sets.new ≡ laid accepted (set_rows s.now) sets.old }
+fn fill_sets(sets: DisplaySets<'_>, rows: &mut [[u64; 3]])
+    requires { sets.count ≡ length rows.old }
+    ensures { rows.new ≡ set_rows sets.entry.stream.now }
 {
-    let mut at: usize = 0;
-    for row in &mut sets[..n] {
-        let header = header_at(s, at);
-        let open = OpenSet {
-            stream: s,
-            from: at + (SegmentHeader::SIZE + header.segment_size as usize),
-        };
-        let end = open.end();
-        *row = [at as u64, end as u64, header.pts as u64];
-        at = end;
+    let mut records = sets.records();
+    for row in rows {
+        if let Some(set) = records.next() {
+            *row = [set.place as u64, set.end as u64, u64::from(set.pts)];
+        }
     }
 }
 
@@ -136,31 +113,22 @@ fn fill_sets(s: &[u8], n: usize, sets: &mut [[u64; 3]])
 pub fn parse_display_sets(s: &[u8], sets: &mut [[u64; 3]]) -> Result<usize, Refusal>
     ensures { Delivered (sets_verdict s.now) (set_count s.now) (set_rows s.now) sets.old sets.new (outcome result) }
 {
-    let n = group_display_sets(s)?;
-    if sets.len() < n {
+    let read = DisplaySets::read(s)?;
+    if sets.len() < read.count {
         return Err(Refusal::BufferTooSmall);
     }
-    fill_sets(s, n, sets);
-    Ok(n)
+    fill_sets(read, &mut sets[..read.count]);
+    Ok(read.count)
 }
 
 // The record of set number k.
 pub fn find_set(s: &[u8], k: usize) -> Result<SetRecord, Refusal>
     ensures { FoundSet s.now k (outcome result) }
 {
-    let n = group_display_sets(s)?;
-    if n <= k {
+    let sets = DisplaySets::read(s)?;
+    if sets.count <= k {
         return Err(Refusal::NoSuchSet);
     }
-    let place = set_place(s, k);
-    let header = header_at(s, place);
-    let open = OpenSet {
-        stream: s,
-        from: place + (SegmentHeader::SIZE + header.segment_size as usize),
-    };
-    Ok(SetRecord {
-        place,
-        end: open.end(),
-        pts: header.pts,
-    })
+    // there is one
+    Ok(sets.records().nth(k).unwrap())
 }

@@ -5,19 +5,16 @@ use mathlib.Core.List.{List, [], ◌∷◌}
 use Prim.Native.Nat.{ℕ, zero, suc, ◌+◌, ◌-◌, ◌≤◌, ◌<◌}
 use native.Mathlib.Omega.{arith}
 use borrow.Author.Tests.{lt-ltb}
-use lib.ListN.{length, take, drop, set, length-drop}
-use lib.Seq.{drop-drop, length-take-le, drop-length}
-use Rattle.pgs_base.specs.Bytes.{num}
+use lib.ListN.{length, take, drop, length-drop}
 use Rattle.pgs_base.specs.Outcome.{accepted, refused, Outcome, outcome_of, is_accepted}
-use Rattle.pgs_base.proofs.Bytes.{num-take}
 use Rattle.pgs_base.proofs.Lists.{to_end}
-use Rattle.pgs_base.proofs.Front.{Front, begins, stored}
-use Rattle.pgs_base.proofs.Outcomes.{not-refused, is-accepted, first-accepts}
+use Rattle.pgs_base.proofs.Outcomes.{is-accepted, first-accepts}
 use Rattle.pgs_segment.specs.Header.{header_fields}
 use Rattle.pgs_segment.specs.OneSegment.{segment_verdict, used_by, frame_of}
 use Rattle.pgs_segment.specs.declared.header.SegmentHeader.{SegmentHeader}
 use Rattle.pgs_segment.specs.declared.segment.Frame.{Frame}
 use Rattle.pgs_stream.specs.Stream.{Reading, step_verdict, before, read_first, read_of, stopped_by, stream_verdict, segment_count, records_from, records_of}
+use Rattle.pgs_segment.proofs.HeaderLaws.{own-head}
 use Rattle.pgs_segment.proofs.SegmentLaws.{accepted-size}
 
 -- a segment that is accepted lies within the list
@@ -72,48 +69,39 @@ pub stopped-at : (l : List ℕ) → 0 < length l → stopped_by l ≡ step_verdi
 stopped-at [] h = absurd (omega arith)
 stopped-at (x ∷ l) h = refl
 
--- n segments are counted, and reading goes on at place `at` of the stream s
-pub record Counting (s : List ℕ) (at n : ℕ) : Type 0 where
-  pub inside : at ≤ length s
-  pub few : n ≤ at
-  pub count : n + length (read_of (drop at s)).pieces ≡ segment_count s
-  pub rest : (read_of (drop at s)).rest ≡ (read_of s).rest
+-- n segments are counted, and reading goes on with what is left of the stream
+pub record Counting (s left : List ℕ) (n : ℕ) : Type 0 where
+  pub few : n + length left ≤ length s
+  pub count : n + length (read_of left).pieces ≡ segment_count s
+  pub rest : (read_of left).rest ≡ (read_of s).rest
 
 module _ (s : List ℕ) where
-  pub counting : Counting s 0 0
-  counting = record { inside = omega arith; few = omega arith; count = omega arith; rest = refl }
-
-  module _ {at n : ℕ} (c : Counting s at n) where
-    within : step_verdict (drop at s) ≡ accepted → at + used_by (drop at s) ≤ length s
-    within e = omega (arith, step-within (drop at s) e, length-drop at s, c.inside)
-
-    pub counts-on : step_verdict (drop at s) ≡ accepted → Counting s (at + used_by (drop at s)) (n + 1)
+  module _ {l : List ℕ} {n : ℕ} (c : Counting s l n) where
+    pub counts-on : step_verdict l ≡ accepted → Counting s (drop (used_by l) l) (n + 1)
     counts-on e =
-        let r = read-on (drop at s) e in
+        let r = read-on l e in
         record {
-          inside = within e;
-          few = omega (arith, c.few);
-          count = rw (← drop-drop (used_by (drop at s)) at s) (omega (arith, ap (λ (x : Reading). length x.pieces) r, c.count));
-          rest = rw (← drop-drop (used_by (drop at s)) at s) (sym (ap (λ (x : Reading). x.rest) r) ∙ c.rest);
+          few = omega (arith, c.few, step-within l e, length-drop (used_by l) l);
+          count = omega (arith, ap (λ (x : Reading). length x.pieces) r, c.count);
+          rest = sym (ap (λ (x : Reading). x.rest) r) ∙ c.rest;
         }
 
-    pub counted-refusal : {k : ℕ} → at < length s → step_verdict (drop at s) ≡ refused k → stream_verdict s ≡ refused k
+    pub counted-refusal : {k : ℕ} → 0 < length l → step_verdict l ≡ refused k → stream_verdict s ≡ refused k
     counted-refusal h e =
-        ap stopped_by (sym c.rest ∙ ap (λ (x : Reading). x.rest) (read-stops (drop at s) e))
-        ∙ (stopped-at (drop at s) (rw length-drop (omega arith)) ∙ e)
+        ap stopped_by (sym c.rest ∙ ap (λ (x : Reading). x.rest) (read-stops l e)) ∙ (stopped-at l h ∙ e)
 
-    ends : length s ≤ at → drop at s ≡ []
-    ends h = let q : at ≡ length s = omega (arith, c.inside) in rw q (drop-length s)
+    ends : length l ≡ 0 → read_of l ≡ record { pieces = []; rest = [] }
+    ends h = ap read_of (none l h) ∙ read-stops [] refl
+      where
+        none : (xs : List ℕ) → length xs ≡ 0 → xs ≡ []
+        none [] e = refl
+        none (x ∷ xs) e = absurd (omega arith)
 
-    pub counted-all : length s ≤ at → stream_verdict s ≡ accepted
-    counted-all h =
-        ap stopped_by (sym c.rest ∙ ap (λ (l : List ℕ). (read_of l).rest) (ends h) ∙ ap (λ (x : Reading). x.rest) (read-stops [] refl))
+    pub counted-all : length l ≡ 0 → stream_verdict s ≡ accepted
+    counted-all h = ap stopped_by (sym c.rest ∙ ap (λ (x : Reading). x.rest) (ends h))
 
-    pub counted : length s ≤ at → n ≡ segment_count s
-    counted h =
-        let q : length (read_of (drop at s)).pieces ≡ 0
-        = ap (λ (l : List ℕ). length (read_of l).pieces) (ends h) ∙ ap (λ (x : Reading). length x.pieces) (read-stops [] refl) in
-        omega (arith, c.count)
+    pub counted : length l ≡ 0 → n ≡ segment_count s
+    counted h = omega (arith, ap (λ (x : Reading). length x.pieces) (ends h), c.count)
 
 pub records-length : {A : Type 0} (made : ℕ → SegmentHeader → A) (at : ℕ) (xs : List (List ℕ)) → length (records_from made at xs) ≡ length xs
 records-length made at [] = refl
@@ -124,71 +112,6 @@ pub segment-records : {A : Type 0} (made : ℕ → SegmentHeader → A) (s : Lis
 unfolding records_of
 segment-records made s = records-length made 0 (read_of s).pieces
 
--- a segment's head is the same, whatever follows it
-own-head : (l : List ℕ) → step_verdict l ≡ accepted → header_fields (take (used_by l) l) ≡ header_fields l
-own-head l e =
-    let w = step-within l e in
-    let field : (k p : ℕ) → p + k ≤ 13 → num k p (take (used_by l) l) ≡ num k p l = λ k p h. num-take k p (used_by l) l (omega arith) w in
-    λ j. record {
-      pts = field 4 2 (omega arith) j;
-      dts = field 4 6 (omega arith) j;
-      segment_type = field 1 10 (omega arith) j;
-      segment_size = field 2 11 (omega arith) j;
-    }
-
--- i of n records are stored, and the next segment stands at place `at` of the stream s
-pub record Storing {A : Type 0} (made : ℕ → SegmentHeader → A) (s : List ℕ) (n : ℕ) (start now : List A) (i at : ℕ) : Type 0 where
-  pub inside : at ≤ length s
-  pub count : i + length (read_of (drop at s)).pieces ≡ n
-  pub front : Front start (records_of made s) now (records_from made at (read_of (drop at s)).pieces) i
-
-module _ {A : Type 0} (made : ℕ → SegmentHeader → A) (s : List ℕ) (n : ℕ) where
-  pub storing : (start : List A) → n ≡ segment_count s → Storing made s n start start 0 0
-  unfolding records_of
-  storing start e = record { inside = omega arith; count = omega (arith, e); front = begins start (records_from made 0 (read_of s).pieces) }
-
-  module _ {start now : List A} {i at : ℕ} (c : Storing made s n start now i at) where
-    -- one is left: a segment is accepted here
-    pub next-accepted : i < n → step_verdict (drop at s) ≡ accepted
-    next-accepted h =
-        not-refused (step_verdict (drop at s))
-        (λ k e. omega (arith, ap (λ (x : Reading). length x.pieces) (read-stops (drop at s) e), c.count))
-
-    pub next-within : i < n → at + used_by (drop at s) ≤ length s
-    next-within h = omega (arith, step-within (drop at s) (next-accepted h), length-drop at s, c.inside)
-
-    -- its record is stored
-    pub stores-on : i < n → n ≤ length start → (a : A) → a ≡ made at (header_fields (drop at s))
-        → Storing made s n start (set now i a) (i + 1) (at + used_by (drop at s))
-    stores-on h room a e =
-        record {
-          inside = next-within h;
-          count = rw (← drop-drop (used_by (drop at s)) at s) (omega (arith, ap (λ (x : Reading). length x.pieces) r, c.count));
-          front = rw (← drop-drop (used_by (drop at s)) at s) (stored {now = now} a (rw e next) (omega (arith, c.front.same)));
-        }
-      where
-        ok : step_verdict (drop at s) ≡ accepted
-        ok = next-accepted h
-
-        r : read_of (drop at s) ≡ before (take (used_by (drop at s)) (drop at s)) (read_of (drop (used_by (drop at s)) (drop at s)))
-        r = read-on (drop at s) ok
-
-        records : records_from made at (read_of (drop at s)).pieces
-            ≡ made at (header_fields (drop at s)) ∷ records_from made (at + used_by (drop at s)) (read_of (drop (used_by (drop at s)) (drop at s))).pieces
-        records =
-            ap (λ (x : Reading). records_from made at x.pieces) r
-            ∙ (λ j. made at (own-head (drop at s) ok j)
-            ∷ records_from made (at + length-take-le (used_by (drop at s)) (drop at s) (step-within (drop at s) ok) j)
-            (read_of (drop (used_by (drop at s)) (drop at s))).pieces)
-
-        next : Front start (records_of made s) now
-            (made at (header_fields (drop at s)) ∷ records_from made (at + used_by (drop at s)) (read_of (drop (used_by (drop at s)) (drop at s))).pieces) i
-        next = rw records at c.front
-
-    -- none is left: all are stored
-    pub stored-front : n ≤ i → Front start (records_of made s) now [] i
-    stored-front h = rw (none (read_of (drop at s)).pieces (omega (arith, c.count))) at c.front
-      where
-        none : (xs : List (List ℕ)) → length xs ≡ 0 → records_from made at xs ≡ []
-        none [] e = refl
-        none (x ∷ xs) e = absurd (omega arith)
+-- a segment has the head of all that follows
+pub piece-head : (l : List ℕ) → step_verdict l ≡ accepted → header_fields (take (used_by l) l) ≡ header_fields l
+piece-head l e = own-head (used_by l) l (omega arith) (step-within l e)

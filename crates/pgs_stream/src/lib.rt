@@ -1,4 +1,5 @@
 // The stream: all segments, one after another.
 #![tactic(auto)]
 
+pub mod segments;
 pub mod stream;

@@ -1,6 +1,6 @@
 // The stream: all segments, one after another (01, module 4).
-ghost use Rattle.std.specs.Prelude.{◌≡◌, ◌≤◌, ℕ, length};
-ghost use Rattle.pgs_base.specs.Outcome.{accepted, outcome, outcome_of, laid, Delivered};
+ghost use Rattle.std.specs.Prelude.{◌≡◌, ℕ, length, map};
+ghost use Rattle.pgs_base.specs.Outcome.{outcome, outcome_of, Delivered};
 ghost use Rattle.pgs_segment.specs.declared.header.SegmentHeader.{SegmentHeader};
 ghost use Rattle.pgs_stream.specs.Stream.{
   head_row,
@@ -8,24 +8,27 @@ ghost use Rattle.pgs_stream.specs.Stream.{
   segment_count,
   stream_verdict,
 };
+ghost use Rattle.pgs_stream.specs.Segments.{placed_record, segments_left};
 
+use crate::segments::Segments;
 use pgs_base::refusal::Refusal;
-use pgs_segment::header::{SegmentHeader, header_at};
+use pgs_segment::header::SegmentHeader;
 use pgs_segment::segment::check_segment;
 
 // Reads the stream once without storing: how many segments it has.
 pub fn count_segments(s: &[u8]) -> Result<usize, Refusal>
     ensures { outcome result ≡ outcome_of (stream_verdict s.now) (segment_count s.now) }
 {
-    let mut at: usize = 0;
+    let mut rest = s;
     let mut n: usize = 0;
-    while at < s.len() {
-        let frame = check_segment(&s[at..])?;
-        let used = SegmentHeader::SIZE + frame.header.segment_size as usize;
+    // Stays a loop: each step may refuse, and an iterator of `Result`s would have to be stopped at its first `Err` by a `?` in a loop
+    // all the same.
+    while !rest.is_empty() {
+        let used = check_segment(rest)?.header.used();
         if used == 0 {
             return Err(Refusal::ZeroLengthSegment);
         }
-        at += used;
+        rest = &rest[used..];
         n += 1;
     }
     Ok(n)
@@ -46,25 +49,23 @@ impl FromHeader for [u64; 5] {
     fn from_header(at: usize, header: SegmentHeader) -> [u64; 5] {
         [
             at as u64,
-            header.pts as u64,
-            header.dts as u64,
-            header.segment_type as u64,
-            header.segment_size as u64,
+            u64::from(header.pts),
+            u64::from(header.dts),
+            u64::from(header.segment_type),
+            u64::from(header.segment_size),
         ]
     }
 }
 
-// Stores the records of the n segments of a stream.
-fn fill_segments<R: FromHeader>(s: &[u8], n: usize, list: &mut [R])
-    requires n_value { n ≡ segment_count s.now }
-    requires n_in_bounds { n ≤ length list.old }
-    ensures { list.new ≡ laid accepted (records_of R.from_header s.now) list.old }
+// Stores the records of the segments, one in each cell of the list.
+fn fill_segments<R: FromHeader>(mut segments: Segments, list: &mut [R])
+    requires { length (segments_left segments) ≡ length list.old }
+    ensures { list.new ≡ map (placed_record R.from_header) (segments_left segments.entry) }
 {
-    let mut at: usize = 0;
-    for record in &mut list[..n] {
-        let header = header_at(s, at);
-        *record = R::from_header(at, header);
-        at += SegmentHeader::SIZE + header.segment_size as usize;
+    for record in list {
+        if let Some(segment) = segments.next() {
+            *record = R::from_header(segment.at, segment.header);
+        }
     }
 }
 
@@ -76,6 +77,6 @@ pub fn parse_segments<R: FromHeader>(s: &[u8], list: &mut [R]) -> Result<usize, 
     if list.len() < n {
         return Err(Refusal::BufferTooSmall);
     }
-    fill_segments(s, n, list);
+    fill_segments(Segments { stream: s, at: 0 }, &mut list[..n]);
     Ok(n)
 }

@@ -21,13 +21,12 @@ use Rattle.pgs_segment.specs.Header.{size_of, header_fields}
 use Rattle.pgs_segment.specs.OneSegment.{segment_type, fields_of}
 use Rattle.pgs_segment.specs.declared.header.SegmentHeader.{SegmentHeader}
 use Rattle.pgs_ods.specs.OdsBody.{flag_of, head_size, ods_of, ods_data}
-use Rattle.pgs_pcs.specs.PcsBody.{placement_of, placement_size, placement_row, placement_count, placements_of, pcs_of, pcs_verdict}
+use Rattle.pgs_pcs.specs.PcsBody.{placement_of, placement_size, placement_row, placement_rows, placement_count, placements_of, pcs_of, pcs_verdict}
 use Rattle.pgs_pds.specs.PdsBody.{entry_of, entry_size, entry_row, entry_count, entries_of, entry_rows, pds_of}
 use Rattle.pgs_wds.specs.WdsBody.{window_of, window_size, window_row, window_count, windows_of, window_rows, wds_verdict}
 use Rattle.pgs_ods.specs.declared.ods.Ods.{Ods}
 use Rattle.pgs_pcs.specs.declared.pcs.CompositionObject.{CompositionObject}
 use Rattle.pgs_pcs.specs.declared.pcs.Pcs.{Pcs}
-use Rattle.pgs_pds.specs.declared.pds.PaletteEntry.{PaletteEntry}
 use Rattle.pgs_pds.specs.declared.pds.Pds.{Pds}
 use Rattle.pgs_wds.specs.declared.wds.Window.{Window}
 use Rattle.pgs_pcs.proofs.PcsLaws.{crop-back, has-numbers}
@@ -44,46 +43,45 @@ back-again : {A : Type 0} (row : A → List ℕ) (back : List ℕ → A) → ((a
 back-again row back h [] = refl
 back-again row back h (x ∷ xs) = let e = h x in let r = back-again row back h xs in λ i. e i ∷ r i
 
-as_many : {A : Type 0} (row : A → List ℕ) (xs : List A) {rows : List (List ℕ)} → rows ≡ map row xs → length rows ≡ length xs
-as_many row xs are = ap length are ∙ length-map xs row
+-- what a body's list was read as, its rows, which stand for it again, and how many its count says
+pub record ReadList {A : Type 0} (row : A → List ℕ) (back : List ℕ → A) (xs : List A) (rows : List (List ℕ)) (count : ℕ) : Type 0 where
+  pub are : rows ≡ map row xs
+  pub again : (a : A) → back (row a) ≡ a
+  pub many : count ≡ length xs
 
-module _ {A X : Type 0} (row : A → List ℕ) (xs : List A) {rows : List (List ℕ)} (are : rows ≡ map row xs) {v : Verdict} {x : X} {before after : List (List ℕ)} where
+module _ {A X : Type 0} {row : A → List ℕ} {back : List ℕ → A} {xs : List A} {rows : List (List ℕ)} {count : ℕ} (l : ReadList row back xs rows count)
+    {v : Verdict} {x : X} {before after : List (List ℕ)} where
   -- with room for all, an accepted body is not refused
   pub never-refused : v ≡ accepted → length xs ≤ length before → {k : ℕ} → Delivered v x rows before after (refuses k) → ⊥
   never-refused e h {k} d =
-      not-both (simp (e, le-leb (length rows) (length before) (omega (arith, as_many row xs are)))) (delivered-refusal d)
+      let as_many : length rows ≡ length xs = ap length l.are ∙ length-map xs row in
+      not-both (simp (e, le-leb (length rows) (length before) (omega arith))) (delivered-refusal d)
 
-  module _ {y : X} (d : Delivered v x rows before after (gives y)) where
+  module _ {y : X} (d : Delivered v x rows before after (gives y)) {n : ℕ} (q : n ≡ count) where
     filled : after ≡ map row xs ++ drop (length rows) before
-    filled = d.written ∙ (ap (λ (w : Verdict). laid w rows before) (delivered d) ∙ ap (λ (r : List (List ℕ)). r ++ drop (length rows) before) are)
+    filled = d.written ∙ (ap (λ (w : Verdict). laid w rows before) (delivered d) ∙ ap (λ (r : List (List ℕ)). r ++ drop (length rows) before) l.are)
 
-    pub room : {n : ℕ} → n ≡ length xs → n ≤ length after
-    room q = rw (filled, length-append, length-map) (omega arith)
+    pub room : n ≤ length after
+    room = rw (filled, length-append, length-map) (omega (arith, l.many))
 
     -- the records that were stored
-    pub front : {n : ℕ} → n ≡ length xs → take n after ≡ map row xs
-    front {n} q = ap (take n) filled ∙ take_at (map row xs) (drop (length rows) before) n (length-map xs row ∙ sym q)
+    pub front : take n after ≡ map row xs
+    front = ap (take n) filled ∙ take_at (map row xs) (drop (length rows) before) n (length-map xs row ∙ sym (q ∙ l.many))
 
-    pub front_length : {n : ℕ} → n ≡ length xs → n ≡ length (take n after)
-    front_length q = q ∙ sym (ap length (front q) ∙ length-map xs row)
+    pub front_length : n ≡ length (take n after)
+    front_length = q ∙ l.many ∙ sym (ap length front ∙ length-map xs row)
 
     -- stand for what was read
-    pub read_again : (back : List ℕ → A) → ((a : A) → back (row a) ≡ a) → {n : ℕ} → n ≡ length xs → map back (take n after) ≡ xs
-    read_again back h q = ap (map back) (front q) ∙ back-again row back h xs
+    pub read_again : map back (take n after) ≡ xs
+    read_again = ap (map back) front ∙ back-again row back l.again xs
 
 -- a write of the same fields
 pub same_write : {f g : SegmentFields} {before after : List ℕ} {a : Outcome ℕ} → f ≡ g
     → Delivered (unless 35 (writable f)) (length (encode f)) (encode f) before after a → Delivered (unless 35 (writable g)) (length (encode g)) (encode g) before after a
 same_write e d = rw e at d
 
--- a record stands for its window, entry or placement
-pub window-back : (w : Window) → window_from (window_row w) ≡ w
-window-back w = refl
-
-pub entry-back : (e : PaletteEntry) → entry_from (entry_row e) ≡ e
-entry-back e = refl
-
-pub placement-back : (p : CompositionObject) → placement_from (placement_row p) ≡ p
+-- a row stands for its placement
+placement-back : (p : CompositionObject) → placement_from (placement_row p) ≡ p
 placement-back p = ap (λ (c : Option CompositionObjectCrop). record {
   object_id = p.object_id;
   window_id = p.window_id;
@@ -107,34 +105,30 @@ pub marked : (p d : ℕ) (n : Pcs) (ps : List CompositionObject) {rows : List (L
 marked p d n ps {rows} e = ap (λ (t : Bool). pick t (writable (pcs_segment p d n rows)) false) (ap (each mark_fits) e ∙ marks-fit ps)
 
 module _ (b : List ℕ) where
-  -- the lists of a body, as many as its count says
-  pub window-list : window_rows b ≡ map window_row (windows_of b)
+  -- the lists of a body
+  pub windows-read : ReadList window_row window_from (windows_of b) (window_rows b) (window_count b)
   unfolding window_rows
-  window-list = refl
+  windows-read = record { are = refl; again = λ w. refl; many = sym (records-length window_of window_size (window_count b) (drop 1 b)) }
 
-  pub window-count : window_count b ≡ length (windows_of b)
-  window-count = sym (records-length window_of window_size (window_count b) (drop 1 b))
-
-  pub entry-list : entry_rows b ≡ map entry_row (entries_of b)
+  pub entries-read : ReadList entry_row entry_from (entries_of b) (entry_rows b) (entry_count b)
   unfolding entry_rows
-  entry-list = refl
+  entries-read = record { are = refl; again = λ e. refl; many = sym (records-length entry_of entry_size (entry_count b) (drop 2 b)) }
 
-  pub entry-count : entry_count b ≡ length (entries_of b)
-  entry-count = sym (records-length entry_of entry_size (entry_count b) (drop 2 b))
-
-  pub placement-count : placement_count b ≡ length (placements_of b)
-  placement-count = sym (records-length placement_of placement_size (placement_count b) (drop 11 b))
+  pub placements-read : ReadList placement_row placement_from (placements_of b) (placement_rows b) (placement_count b)
+  unfolding placement_rows
+  placements-read =
+      record { are = refl; again = placement-back; many = sym (records-length placement_of placement_size (placement_count b) (drop 11 b)) }
 
   -- a count of one byte names at most 255
   pub few-windows : wds_verdict b ≡ accepted → get_or b 0 0 < 256 → length (windows_of b) ≤ 255
-  few-windows e h = omega (arith, window-count, num-byte 0 b (has-count b e))
+  few-windows e h = omega (arith, windows-read.many, num-byte 0 b (has-count b e))
 
   pub few-placements : pcs_verdict b ≡ accepted → get_or b 10 0 < 256 → length (placements_of b) ≤ 255
-  few-placements e h = let q = has-numbers b e in omega (arith, placement-count, num-byte 10 b (omega arith))
+  few-placements e h = let q = has-numbers b e in omega (arith, placements-read.many, num-byte 10 b (omega arith))
 
   -- and a body of 65,535 bytes has at most 13,106 entries
   pub few-entries : length b ≤ 65535 → length (entries_of b) ≤ 13106
-  few-entries h = omega (arith, entry-count)
+  few-entries h = omega (arith, entries-read.many)
 
   -- the fields that were read
   module _ (p d : ℕ) where

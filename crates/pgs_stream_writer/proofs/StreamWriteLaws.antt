@@ -2,63 +2,76 @@
 use Rattle.std.specs.Prelude.{Result, Ok, Err}
 use Rattle.pgs_base.specs.declared.refusal.Refusal.{Refusal}
 use mathlib.Core.Path.{◌≡◌, refl, sym, ap, ◌∙◌}
+use mathlib.Core.Bool.{Bool, true, false}
 use mathlib.Core.List.{List, [], ◌∷◌, ◌++◌, map, append-nil}
-use Prim.Native.Nat.{ℕ, suc, ◌+◌, ◌-◌, ◌≤◌, ◌<◌, min}
+use Prim.Native.Nat.{ℕ, zero, suc, ◌+◌, ◌-◌, ◌≤◌, ◌<◌}
 use native.Mathlib.Omega.{arith}
-use borrow.Author.Tests.{leb-true}
+use borrow.Author.Tests.{leb-true, leb-false}
 use lib.Dec.{leb}
-use lib.ListN.{length, take, drop, length-append, length-drop, length-map, drop_of_length-le}
+use lib.ListN.{length, take, drop, length-append, length-drop, drop_of_length-le}
 use lib.Seq.{drop-drop, length-take-le}
-use Rattle.std.proofs.lemmas.List.{take_min}
 use Rattle.pgs_base.proofs.Lists.{to_end}
-use Rattle.pgs_base.proofs.Outcomes.{second_holds, holds, first-accepts}
+use Rattle.pgs_base.proofs.Outcomes.{second_holds, holds, first-accepts, not-both, not-refused}
 use Rattle.pgs_base.specs.Outcome.{Verdict, accepted, refused, Outcome, gives, refuses, outcome, outcome_of, needing, laid, Delivered}
 use Rattle.pgs_stream.proofs.ReadingLaws.{own-fields}
-use Rattle.pgs_stream.proofs.StreamLaws.{read-on, read-stops, step-within}
+use Rattle.pgs_stream.proofs.StreamLaws.{read-on, read-stops, stopped-at}
 use Rattle.pgs_segment.specs.Fields.{SegmentFields}
 use Rattle.pgs_segment.specs.OneSegment.{segment_verdict, used_by, fields_of}
-use Rattle.pgs_stream.specs.Stream.{Reading, before, step_verdict, read_of, stream_fields, segment_count, stream_verdict}
+use Rattle.pgs_stream.specs.Stream.{Reading, before, step_verdict, stopped_by, read_of, records_from, stream_fields, stream_verdict}
+use Rattle.pgs_stream.specs.Segments.{placed, segments_from}
+use Rattle.pgs_stream.specs.declared.segments.PlacedSegment.{PlacedSegment}
+use Rattle.pgs_stream.proofs.SegmentLaws.{none-left, first-left, good-on}
+use Rattle.pgs_segment.specs.Header.{header_fields}
 use Rattle.pgs_encoding.specs.Encode.{encode}
 use Rattle.pgs_stream_writer.specs.StreamWrites.{stream_writes, accepted_in, writes_done, output_after}
 use Rattle.pgs_encoding.specs.Writable.{write_verdict}
 use Rattle.pgs_encoding.specs.Writes.{Written, write_into, moved_by, after, run}
 
--- i of n writes are done: `done` were accepted, the next segment stands at `from` and is written from `at` on
-pub record Performing (s : List ℕ) (n : ℕ) (start now : List ℕ) (i from at done : ℕ) : Type 0 where
-  pub upto : i ≤ n
-  pub inside : from ≤ length s
+-- some of n writes are done, k are left at most: `done` were accepted, these segments are left, and the next is written from `at` on
+pub record Performing (s : List ℕ) (n : ℕ) (start now : List ℕ) (k : ℕ) (xs : List PlacedSegment) (at done : ℕ) : Type 0 where
+  pub from : ℕ
+  pub good : stream_verdict (drop from s) ≡ accepted
+  pub left : xs ≡ segments_from s from
   pub room : at ≤ length now
   pub same : length now ≡ length start
-  pub few : done ≤ i
-  pub enough : n ≤ i + length (read_of (drop from s)).pieces
-  pub position : (run (take (n - i) (stream_fields (drop from s))) at now).position ≡ (stream_writes n s start).position
-  pub output : (run (take (n - i) (stream_fields (drop from s))) at now).output ≡ (stream_writes n s start).output
-  pub number : done + accepted_in (run (take (n - i) (stream_fields (drop from s))) at now).answers ≡ accepted_in (stream_writes n s start).answers
+  pub few : done + k ≤ n
+  pub position : (run (take k (stream_fields (drop from s))) at now).position ≡ (stream_writes n s start).position
+  pub output : (run (take k (stream_fields (drop from s))) at now).output ≡ (stream_writes n s start).output
+  pub number : done + accepted_in (run (take k (stream_fields (drop from s))) at now).answers ≡ accepted_in (stream_writes n s start).answers
+
+-- where no segments are left, no fields are
+none-left-fields : (at : ℕ) (ps : List (List ℕ)) → records_from placed at ps ≡ [] → map fields_of ps ≡ []
+none-left-fields at [] e = refl
+none-left-fields at (p ∷ ps) e = absurd (omega (arith, ap (length {A = PlacedSegment}) e))
+
+take-none : {A : Type 0} (k : ℕ) (xs : List A) → (0 < k → xs ≡ []) → take k xs ≡ []
+take-none zero xs h = refl
+take-none (suc k) xs h = ap (take (suc k)) (h (omega arith))
 
 module _ (s : List ℕ) (n : ℕ) (start : List ℕ) where
-  pub performing : n ≤ segment_count s → Performing s n start start 0 0 0 0
-  performing h =
-      let z : n - 0 ≡ n = omega arith in
-      let r : run (take (n - 0) (stream_fields s)) 0 start ≡ stream_writes n s start = ap (λ (k : ℕ). run (take k (stream_fields s)) 0 start) z in
+  pub performing : {k : ℕ} {xs : List PlacedSegment} → stream_verdict s ≡ accepted → k ≡ n → xs ≡ segments_from s 0 → Performing s n start start k xs 0 0
+  performing {k} ok e q =
+      let r : run (take k (stream_fields s)) 0 start ≡ stream_writes n s start = ap (λ (k : ℕ). run (take k (stream_fields s)) 0 start) e in
       record {
-        upto = omega arith;
-        inside = omega arith;
+        from = 0;
+        good = ok;
+        left = q;
         room = omega arith;
         same = refl;
-        few = omega arith;
-        enough = omega arith;
+        few = omega (arith, e);
         position = ap (λ (w : Written). w.position) r;
         output = ap (λ (w : Written). w.output) r;
         number = omega (arith, ap (λ (w : Written). accepted_in w.answers) r);
       }
 
-  module _ {now : List ℕ} {i from at done : ℕ} (c : Performing s n start now i from at done) where
+  module _ {now : List ℕ} {k : ℕ} {xs : List PlacedSegment} {at done : ℕ} (c : Performing s n start now k xs at done) where
     -- all are done
-    pub performed : n ≤ i → (writes_done (stream_writes n s start) ≡ (done, at)) × (now ≡ (stream_writes n s start).output)
+    pub performed : (0 < k → xs ≡ []) → (writes_done (stream_writes n s start) ≡ (done, at)) × (now ≡ (stream_writes n s start).output)
     performed h =
-        let z : n - i ≡ 0 = omega arith in
-        let r : run (take (n - i) (stream_fields (drop from s))) at now ≡ record { answers = []; position = at; output = now }
-        = ap (λ (k : ℕ). run (take k (stream_fields (drop from s))) at now) z in
+        let z : take k (stream_fields (drop c.from s)) ≡ []
+        = take-none k (stream_fields (drop c.from s)) (λ q. none-left-fields c.from (read_of (drop c.from s)).pieces (sym c.left ∙ h q)) in
+        let r : run (take k (stream_fields (drop c.from s))) at now ≡ record { answers = []; position = at; output = now }
+        = ap (λ (fs : List SegmentFields). run fs at now) z in
         let a : done + 0 ≡ accepted_in (stream_writes n s start).answers
         = sym (ap (λ (w : Written). done + accepted_in w.answers) r) ∙ c.number in
         let d : accepted_in (stream_writes n s start).answers ≡ done = omega arith in
@@ -124,114 +137,137 @@ put_back o ys at =
     ap (λ (t : List ℕ). take at o ++ (ys ++ t)) (drop_of_length-le (drop at o) {i = length o - at} (rw length-drop (omega arith)))
     ∙ ap (λ (t : List ℕ). take at o ++ t) (append-nil ys)
 
-module _ (s : List ℕ) (n : ℕ) (start : List ℕ) {now : List ℕ} {i from at done : ℕ} (c : Performing s n start now i from at done) (h : i < n) where
-  -- a segment stands here
-  pub next-step : step_verdict (drop from s) ≡ accepted
-  next-step = go (step_verdict (drop from s)) refl
-    where
-      go : (v : Verdict) → step_verdict (drop from s) ≡ v → step_verdict (drop from s) ≡ accepted
-      go accepted e = e
-      go (refused k) e = absurd (omega (arith, ap (λ (x : Reading). length x.pieces) (read-stops (drop from s) e), c.enough))
+abbrev first_place : ℕ → List PlacedSegment → ℕ
+first_place z [] = z
+first_place z (x ∷ xs) = x.at
 
-  next-verdict : segment_verdict (drop from s) ≡ accepted
-  next-verdict = first-accepts (segment_verdict (drop from s)) _ next-step
+abbrev rest_of : List PlacedSegment → List PlacedSegment
+rest_of [] = []
+rest_of (x ∷ xs) = xs
 
-  pub next-lent : segment_verdict (take (length s - from) (drop from s)) ≡ accepted
-  next-lent = ap segment_verdict (to_end from s) ∙ next-verdict
+module _ (s : List ℕ) (n : ℕ) (start : List ℕ) {now : List ℕ} {k : ℕ} {x : PlacedSegment} {xs ys : List PlacedSegment} {at done : ℕ}
+    (c : Performing s n start now k xs at done) (h : xs ≡ x ∷ ys)
+  where
+    -- a segment stands here
+    more : c.from < length s
+    more = go (leb (length s) c.from) refl
+      where
+        go : (b : Bool) → leb (length s) c.from ≡ b → c.from < length s
+        go true e = absurd (omega (arith, ap (length {A = PlacedSegment}) (sym h ∙ c.left ∙ none-left s c.from (leb-true (length s) c.from e))))
+        go false e = leb-false (length s) c.from e
 
-  pub next-within : from + used_by (drop from s) ≤ length s
-  next-within = omega (arith, step-within (drop from s) next-step, length-drop from s, c.inside)
+    next-step : step_verdict (drop c.from s) ≡ accepted
+    next-step =
+        not-refused (step_verdict (drop c.from s))
+        (λ j e. not-both c.good
+        (ap (λ (r : Reading). stopped_by r.rest) (read-stops (drop c.from s) e)
+        ∙ (stopped-at (drop c.from s) (rw length-drop (omega (arith, more))) ∙ e)))
 
-  left : read_of (drop from s) ≡ before (take (used_by (drop from s)) (drop from s)) (read_of (drop (used_by (drop from s)) (drop from s)))
-  left = read-on (drop from s) next-step
+    next-verdict : segment_verdict (drop c.from s) ≡ accepted
+    next-verdict = first-accepts (segment_verdict (drop c.from s)) _ next-step
 
-  -- the fields that are left: this segment's before the others'
-  fields-left : stream_fields (drop from s) ≡ fields_of (drop from s) ∷ stream_fields (drop (from + used_by (drop from s)) s)
-  fields-left =
-      ap (λ (x : Reading). map fields_of x.pieces) left
-      ∙ (let f = own-fields (drop from s) next-verdict in
-      let d = drop-drop (used_by (drop from s)) from s in
-      λ j. f j ∷ stream_fields (d j))
+    -- it is the next of those that are left
+    parts : x ∷ ys ≡ placed c.from (header_fields (drop c.from s)) ∷ segments_from s (c.from + used_by (drop c.from s))
+    parts = sym h ∙ (c.left ∙ first-left s c.good more)
 
-  rest-left : take (n - i) (stream_fields (drop from s)) ≡ fields_of (drop from s) ∷ take (n - (i + 1)) (stream_fields (drop (from + used_by (drop from s)) s))
-  rest-left = let k : n - i ≡ suc (n - (i + 1)) = omega arith in λ j. take (k j) (fields-left j)
+    next-place : x.at ≡ c.from
+    next-place = ap (first_place c.from) parts
 
-  -- the write of this segment
-  module _ (answer : Result ℕ Refusal) {ys : List ℕ}
-      (d : Delivered (write_verdict (fields_of (drop from s))) (length (encode (fields_of (drop from s)))) (encode (fields_of (drop from s))) (drop at now) ys (outcome answer))
-    where
-      moves : bytes_written answer ≡ moved_by (write_into (fields_of (drop from s)) (drop at now)) (length (encode (fields_of (drop from s))))
-      moves = answer-moves (length (encode (fields_of (drop from s)))) answer (write_into (fields_of (drop from s)) (drop at now)) d.answered
+    pub next-within : x.at ≤ length s
+    next-within = omega (arith, more, next-place)
 
-      counts : writes_accepted answer ≡ counted (write_into (fields_of (drop from s)) (drop at now))
-      counts = answer-counts (length (encode (fields_of (drop from s)))) answer (write_into (fields_of (drop from s)) (drop at now)) d.answered
+    pub next-lent : segment_verdict (take (length s - x.at) (drop x.at s)) ≡ accepted
+    next-lent = rw next-place (ap segment_verdict (to_end c.from s) ∙ next-verdict)
 
-      -- the writes that are left are this one before the others
-      run-left : run (take (n - i) (stream_fields (drop from s))) at now
-          ≡ after (write_into (fields_of (drop from s)) (drop at now))
-          (run (take (n - (i + 1)) (stream_fields (drop (from + used_by (drop from s)) s))) (at + bytes_written answer) (take at now ++ ys))
-      run-left =
-          ap (λ (fs : List SegmentFields). run fs at now) rest-left
-          ∙ (let e = sym d.written in
-          let m = sym moves in
-          λ j. after (write_into (fields_of (drop from s)) (drop at now)) (run (take (n - (i + 1)) (stream_fields (drop (from + used_by (drop from s)) s))) (at + m j) (take at now ++ e j)))
+    left : read_of (drop c.from s) ≡ before (take (used_by (drop c.from s)) (drop c.from s)) (read_of (drop (used_by (drop c.from s)) (drop c.from s)))
+    left = read-on (drop c.from s) next-step
 
-      written-length : length (take at now ++ ys) ≡ length now
-      written-length =
-          let w = write-fits (fields_of (drop from s)) (drop at now) (write_into (fields_of (drop from s)) (drop at now)) refl in
-          length-append (take at now) ys
-          ∙ omega (arith, length-take-le at now c.room, ap length d.written, w.0, length-drop at now, c.room)
+    -- the fields that are left: this segment's before the others'
+    fields-left : stream_fields (drop c.from s) ≡ fields_of (drop c.from s) ∷ stream_fields (drop (c.from + used_by (drop c.from s)) s)
+    fields-left =
+        ap (λ (x : Reading). map fields_of x.pieces) left
+        ∙ (let f = own-fields (drop c.from s) next-verdict in
+        let d = drop-drop (used_by (drop c.from s)) c.from s in
+        λ j. f j ∷ stream_fields (d j))
 
-      pub ends-within : at + bytes_written answer ≤ length now
-      ends-within =
-          let w = write-fits (fields_of (drop from s)) (drop at now) (write_into (fields_of (drop from s)) (drop at now)) refl in
-          omega (arith, moves, w.1, length-drop at now, c.room)
+    rest-left : (m : ℕ) → m + 1 ≡ k → take k (stream_fields (drop c.from s)) ≡ fields_of (drop c.from s) ∷ take m (stream_fields (drop (c.from + used_by (drop c.from s)) s))
+    rest-left m less = let q : k ≡ suc m = omega (arith, less) in λ j. take (q j) (fields-left j)
 
-      pub counts-one : writes_accepted answer ≤ 1
-      counts-one = at_most answer
-        where
-          at_most : (a : Result ℕ Refusal) → writes_accepted a ≤ 1
-          at_most (Ok k) = omega arith
-          at_most (Err r) = omega arith
+    -- the write of this segment
+    module _ (answer : Result ℕ Refusal) {ws : List ℕ}
+        (d : Delivered (write_verdict (fields_of (drop c.from s))) (length (encode (fields_of (drop c.from s)))) (encode (fields_of (drop c.from s))) (drop at now) ws (outcome answer))
+      where
+        moves : bytes_written answer ≡ moved_by (write_into (fields_of (drop c.from s)) (drop at now)) (length (encode (fields_of (drop c.from s))))
+        moves = answer-moves (length (encode (fields_of (drop c.from s)))) answer (write_into (fields_of (drop c.from s)) (drop at now)) d.answered
 
-      pub performs-on : Performing s n start (take at now ++ ys) (i + 1) (from + used_by (drop from s)) (at + bytes_written answer) (done + writes_accepted answer)
-      performs-on =
-          record {
-            upto = omega arith;
-            inside = next-within;
-            room = omega (arith, ends-within, written-length);
-            same = written-length ∙ c.same;
-            few = omega (arith, c.few, counts-one);
-            enough = rw (← drop-drop (used_by (drop from s)) from s)
-                (omega (arith, ap (λ (x : Reading). length x.pieces) left, c.enough));
-            position = sym (ap (λ (w : Written). w.position) run-left) ∙ c.position;
-            output = sym (ap (λ (w : Written). w.output) run-left) ∙ c.output;
-            number = omega (
-              arith,
-              c.number,
-              counts,
-              ap (λ (w : Written). accepted_in w.answers) run-left,
-              accepted-first (write_into (fields_of (drop from s)) (drop at now))
-                  (run (take (n - (i + 1)) (stream_fields (drop (from + used_by (drop from s)) s)))
-                  (at + bytes_written answer) (take at now ++ ys)).answers,
-            );
-          }
+        counts : writes_accepted answer ≡ counted (write_into (fields_of (drop c.from s)) (drop at now))
+        counts = answer-counts (length (encode (fields_of (drop c.from s)))) answer (write_into (fields_of (drop c.from s)) (drop at now)) d.answered
+
+        -- the writes that are left are this one before the others
+        run-left : (m : ℕ) → m + 1 ≡ k → run (take k (stream_fields (drop c.from s))) at now
+            ≡ after (write_into (fields_of (drop c.from s)) (drop at now))
+            (run (take m (stream_fields (drop (c.from + used_by (drop c.from s)) s))) (at + bytes_written answer) (take at now ++ ws))
+        run-left m less =
+            ap (λ (fs : List SegmentFields). run fs at now) (rest-left m less)
+            ∙ (let e = sym d.written in
+            let w = sym moves in
+            λ j. after (write_into (fields_of (drop c.from s)) (drop at now)) (run (take m (stream_fields (drop (c.from + used_by (drop c.from s)) s))) (at + w j) (take at now ++ e j)))
+
+        written-length : length (take at now ++ ws) ≡ length now
+        written-length =
+            let w = write-fits (fields_of (drop c.from s)) (drop at now) (write_into (fields_of (drop c.from s)) (drop at now)) refl in
+            length-append (take at now) ws
+            ∙ omega (arith, length-take-le at now c.room, ap length d.written, w.0, length-drop at now, c.room)
+
+        pub ends-within : at + bytes_written answer ≤ length now
+        ends-within =
+            let w = write-fits (fields_of (drop c.from s)) (drop at now) (write_into (fields_of (drop c.from s)) (drop at now)) refl in
+            omega (arith, moves, w.1, length-drop at now, c.room)
+
+        pub counts-one : writes_accepted answer ≤ 1
+        counts-one = at_most answer
+          where
+            at_most : (a : Result ℕ Refusal) → writes_accepted a ≤ 1
+            at_most (Ok k) = omega arith
+            at_most (Err r) = omega arith
+
+        performs-on : {m : ℕ} → m + 1 ≡ k → Performing s n start (take at now ++ ws) m ys (at + bytes_written answer) (done + writes_accepted answer)
+        performs-on {m} less =
+            record {
+              from = c.from + used_by (drop c.from s);
+              good = good-on s c.good more;
+              left = ap rest_of parts;
+              room = omega (arith, ends-within, written-length);
+              same = written-length ∙ c.same;
+              few = omega (arith, c.few, counts-one, less);
+              position = sym (ap (λ (w : Written). w.position) (run-left m less)) ∙ c.position;
+              output = sym (ap (λ (w : Written). w.output) (run-left m less)) ∙ c.output;
+              number = omega (
+                arith,
+                c.number,
+                counts,
+                ap (λ (w : Written). accepted_in w.answers) (run-left m less),
+                accepted-first (write_into (fields_of (drop c.from s)) (drop at now))
+                    (run (take m (stream_fields (drop (c.from + used_by (drop c.from s)) s)))
+                    (at + bytes_written answer) (take at now ++ ws)).answers,
+              );
+            }
+
+    -- a write that took so many bytes, 0 where it was refused, and counts 1 where it was accepted
+    pub performed-next : {m at' done' : ℕ} (answer : Result ℕ Refusal) {ws : List ℕ} → m + 1 ≡ k
+        → Delivered (write_verdict (fields_of (take (length s - x.at) (drop x.at s)))) (length (encode (fields_of (take (length s - x.at) (drop x.at s)))))
+        (encode (fields_of (take (length s - x.at) (drop x.at s)))) (take (length now - at) (drop at now)) ws (outcome answer)
+        → at' ≡ at + bytes_written answer → done' ≡ done + writes_accepted answer
+        → Performing s n start (take at now ++ (ws ++ drop (length now - at) (drop at now))) m ys at' done'
+    performed-next answer {ws} less d e q = rw (put_back now ws at, e, q) (performs-on answer (rw next-place at (lent-write s now x.at at d)) less)
 
 -- how the call ends, for an accepted stream and for a refused one
 module _ (n : ℕ) (s o : List ℕ) where
-  pub accepted-writes : (m : ℕ) {a : Outcome (ℕ × ℕ)} {o' : List ℕ} → stream_verdict s ≡ accepted → take m (stream_fields s) ≡ take n (stream_fields s)
-      → (a ≡ gives (writes_done (stream_writes m s o))) × (o' ≡ (stream_writes m s o).output)
+  pub accepted-writes : {a : Outcome (ℕ × ℕ)} {o' : List ℕ} → stream_verdict s ≡ accepted
+      → (a ≡ gives (writes_done (stream_writes n s o))) × (o' ≡ (stream_writes n s o).output)
       → (a ≡ outcome_of (stream_verdict s) (writes_done (stream_writes n s o))) × (o' ≡ output_after (stream_verdict s) (stream_writes n s o) o)
-  accepted-writes m e q r =
-      let w = ap (λ (fs : List SegmentFields). run fs 0 o) q in
-      rw e (r.0 ∙ ap (λ (x : Written). gives (writes_done x)) w, r.1 ∙ ap (λ (x : Written). x.output) w)
+  accepted-writes e r = rw e r
 
   pub refused-writes : {k : ℕ} → stream_verdict s ≡ refused k
       → (◌≡◌ {A = Outcome (ℕ × ℕ)} (refuses k) (outcome_of (stream_verdict s) (writes_done (stream_writes n s o)))) × (o ≡ output_after (stream_verdict s) (stream_writes n s o) o)
   refused-writes e = rw e (refl, refl)
-
-  -- more writes than segments are all of them
-  pub all-writes : {k m : ℕ} → k ≡ segment_count s → m ≡ min n k → take m (stream_fields s) ≡ take n (stream_fields s)
-  all-writes {k} {m} q e =
-      let count : k ≡ length (stream_fields s) = q ∙ sym (length-map (read_of s).pieces fields_of) in
-      ap (λ (j : ℕ). take j (stream_fields s)) (e ∙ ap (min n) count) ∙ take_min n (stream_fields s)

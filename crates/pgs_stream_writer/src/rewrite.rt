@@ -21,14 +21,17 @@ use pgs_writer_lists::pds::encode_pds;
 use pgs_writer_lists::wds::encode_wds;
 use pgs_writer_pcs::pcs::encode_pcs;
 
-// Room for all placements or windows that a count of one byte can name, and for all entries of a body of 65,535 bytes.
-const COUNTED: usize = 255;
+// Room for all placements or windows that a count of one byte can name, and for all entries of the largest body: two numbers, then five
+// bytes each.
+const COUNTED: usize = u8::MAX as usize;
 
-const ENTRIES: usize = 13106;
+const ENTRIES: usize = (u16::MAX as usize - 2) / 5;
 
 // A PCS of the body, which is known to be whole: reading it is never refused.
 // Stays three functions: one for all kinds would need a trait with a record type, its room, a reader and a writer, whose impls are no
 // shorter than these bodies.
+// Stays without a struct of a whole body: it would hold the kind, and each of these would ask that the kind is its own, in the place of
+// that the body is whole.
 fn rewrite_pcs(times: Timestamps, body: &[u8], out: &mut [u8]) -> Result<usize, Refusal>
     requires { body_verdict SegmentType.Pcs body.now ≡ accepted }
     ensures { Wrote (segment_with times.pts times.dts SegmentType.Pcs body.now) out.old out.new result }
@@ -99,7 +102,6 @@ pub(crate) fn rewrite_segment(l: &[u8], out: &mut [u8]) -> Result<usize, Refusal
         pts: head.pts,
         dts: head.dts,
     };
-    let end = SegmentHeader::SIZE + head.segment_size as usize;
-    let kind = SegmentType::from(head.segment_type);
-    rewrite_body(times, kind, &l[SegmentHeader::SIZE..end], out)
+    let kind = head.kind();
+    rewrite_body(times, kind, &l[SegmentHeader::SIZE..head.used()], out)
 }

@@ -14,15 +14,20 @@ ghost use Rattle.pgs_wds.specs.WdsBody.{
 use pgs_base::refusal::Refusal;
 use pgs_fields::{u8_at, u16_at};
 use pgs_records::BodyList;
-use pgs_records::list::{ListRecord, read_list, walk_fixed};
+use pgs_records::list::{ListRecord, check_counted, read_counted, walk_fixed};
 
-#[derive(Clone, Copy)]
+#[derive(Clone, Copy, Debug, PartialEq, Eq)]
 pub struct Window {
     pub window_id: u8,
     pub horizontal_position: u16,
     pub vertical_position: u16,
     pub width: u16,
     pub height: u16,
+}
+
+impl Window {
+    // How many bytes a window takes.
+    pub const SIZE: usize = 9;
 }
 
 impl ListRecord for Window {
@@ -35,7 +40,7 @@ impl ListRecord for Window {
     ghost to_row = { window_row };
 
     fn size(_: &[u8]) -> usize {
-        9
+        Window::SIZE
     }
 
     fn read(l: &[u8]) -> Window {
@@ -51,7 +56,7 @@ impl ListRecord for Window {
     // Id, x, y, width, height.
     fn to_row(self) -> [u16; 5] {
         [
-            self.window_id as u16,
+            u16::from(self.window_id),
             self.horizontal_position,
             self.vertical_position,
             self.width,
@@ -60,7 +65,7 @@ impl ListRecord for Window {
     }
 
     fn walk(l: &[u8], n: usize) -> Result<usize, Refusal> {
-        walk_fixed(Self::size(l), l, n)
+        walk_fixed(Window::SIZE, l, n)
     }
 }
 
@@ -68,30 +73,20 @@ impl ListRecord for Window {
 pub fn check_wds(body: &[u8]) -> Result<BodyList, Refusal>
     ensures { outcome result ≡ outcome_of (wds_verdict body.now) (wds_list body.now) }
 {
-    if body.len() < 1 {
-        return Err(Refusal::FieldPastEnd);
-    }
-    let count = u8_at(body, 0) as usize;
-    let len = Window::walk(&body[1..], count)?;
-    Ok(BodyList {
-        count,
-        start: 1,
-        len,
-    })
+    check_counted::<Window>(body, Wds::COUNT_AT)
 }
 
-#[derive(Clone, Copy)]
+#[derive(Clone, Copy, Debug, PartialEq, Eq)]
 pub struct Wds {}
 
 impl Wds {
+    // Where the count of windows stands.
+    const COUNT_AT: usize = 0;
+
     // Reads the windows of a body into the caller's list, from the front.
     pub fn parse(body: &[u8], windows: &mut [[u16; 5]]) -> Result<usize, Refusal>
         ensures { Delivered (wds_verdict body.now) (window_count body.now) (window_rows body.now) windows.old windows.new (outcome result) }
     {
-        if body.len() < 1 {
-            return Err(Refusal::FieldPastEnd);
-        }
-        let count = u8_at(body, 0) as usize;
-        read_list::<Window>(&body[1..], count, windows)
+        read_counted::<Window>(body, Wds::COUNT_AT, windows)
     }
 }

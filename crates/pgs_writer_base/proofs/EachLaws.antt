@@ -42,22 +42,27 @@ module _ {A : Type 0} (rows : List A) where
         → record_bytes fields (drop i rows) ≡ written (fields a) ++ record_bytes fields (drop (i + 1) rows)
     bytes_next h e = ap (record_bytes fields) (next h e)
 
-    -- i rows take `size` bytes
-    pub record Measuring (i size : ℕ) : Type 0 where
-      pub reach : size + length (record_bytes fields (drop i rows)) ≡ length (record_bytes fields rows)
+    -- i rows are counted: with those that are left, `size` comes to `total`
+    pub record Measuring (total i size : ℕ) : Type 0 where
+      pub reach : size + length (record_bytes fields (drop i rows)) ≡ total
+      pub small : size < 65536
 
-    pub measuring : Measuring 0 0
-    measuring = record { reach = omega arith }
+    -- the next one
+    module _ {total i size k : ℕ} {a : A} (s : Measuring total i size) (h : i < length rows) (e : a ≡ get_or rows i a) (q : k ≡ length (written (fields a))) where
+      with_next : size + k + length (record_bytes fields (drop (i + 1) rows)) ≡ total
+      with_next =
+          let after : length (record_bytes fields (drop i rows)) ≡ length (written (fields a)) + length (record_bytes fields (drop (i + 1) rows))
+          = ap length (bytes_next h e) ∙ length-append (written (fields a)) (record_bytes fields (drop (i + 1) rows)) in
+          omega (arith, s.reach, after, q)
 
-    pub measures : {i size k : ℕ} {a : A} → Measuring i size → i < length rows → a ≡ get_or rows i a → k ≡ length (written (fields a))
-        → Measuring (i + 1) (size + k)
-    measures {i} {a = a} s h e q = record { reach = omega (arith, s.reach, after) }
-      where
-        after : length (record_bytes fields (drop i rows)) ≡ length (written (fields a)) + length (record_bytes fields (drop (i + 1) rows))
-        after = ap length (bytes_next h e) ∙ length-append (written (fields a)) (record_bytes fields (drop (i + 1) rows))
+      pub measures : size + k < 65536 → Measuring total (i + 1) (size + k)
+      measures m = record { reach = with_next; small = m }
 
-    pub measured : {size : ℕ} → Measuring (length rows) size → size ≡ length (record_bytes fields rows)
-    measured {size} s = sym (ap (λ (l : List A). size + length (record_bytes fields l)) (drop-length rows) ∙ add-zero size) ∙ s.reach
+      pub at_least : size + k ≤ total
+      at_least = omega (arith, with_next)
+
+    pub measured : {total size : ℕ} → Measuring total (length rows) size → size ≡ total
+    measured {total} {size} s = sym (ap (λ (l : List A). size + length (record_bytes fields l)) (drop-length rows) ∙ add-zero size) ∙ s.reach
 
     module _ (start : List ℕ) (first : ℕ) where
       -- i rows are stored from place `first` on, and the next one goes to `at`: storing the others gives the whole

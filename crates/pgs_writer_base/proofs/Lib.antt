@@ -1,3 +1,4 @@
+pub mod BodyLaws
 pub mod EachLaws
 pub mod FitLaws
 pub mod PlacementLaws

@@ -1,30 +1,33 @@
 -- What the writer of a PCS tests of its numbers and its records of placements, and stores of them. Assumes nothing.
 use Rattle.std.specs.Prelude.{None, Some}
+use Rattle.pgs_views.specs.declared.segment_type.SegmentType.TheVariants as kinds
+use Rattle.pgs_writer_base.specs.Bodies.{is_body_size, segment_bytes, list_body, list_fits}
+use Rattle.pgs_writer_base.specs.declared.head.Timestamps.{Timestamps}
+use Rattle.pgs_writer_base.proofs.BodyLaws.{Answered, same-answer, bytes-as, fit-as}
 use mathlib.Core.Path.{◌≡◌, refl, sym, ap, ◌∙◌}
 use mathlib.Core.Bool.{Bool, true, false}
 use mathlib.Core.List.{List, [], ◌∷◌, ◌++◌, map}
-use Prim.Native.Nat.{ℕ, zero, suc, ◌+◌, ◌*◌, ◌^◌, ◌≤◌, ◌<◌}
+use Prim.Native.Nat.{ℕ, zero, suc, ◌+◌, ◌^◌, ◌≤◌, ◌<◌}
 use native.Mathlib.Omega.{arith}
 use borrow.Author.Tests.{lt-ltb, le-ltb, lt-leb, eq-eqb, ne_eqb}
 use lib.Dec.{eqb, leb, ltb}
-use lib.ListN.{length, take, get_or, length-append, length-map}
+use lib.ListN.{length, take, get_or, length-map}
 use lib.Seq.{sets}
 use Rattle.pgs_base.specs.Bytes.{bytes_of}
-use Rattle.pgs_base.specs.Outcome.{pick}
-use Rattle.pgs_records.proofs.RecordLaws.{first_fits, rest-fits}
+use Rattle.pgs_base.specs.Outcome.{Outcome, pick}
 use Rattle.pgs_segment.specs.Fields.{pcs}
 use Rattle.pgs_pcs.specs.PcsBody.{crop_from}
 use Rattle.pgs_pcs.specs.declared.pcs.CompositionObjectCrop.{CompositionObjectCrop}
 use Rattle.pgs_pcs.specs.declared.pcs.Pcs.{Pcs}
-use Rattle.pgs_encoding.specs.Encode.{body_bytes, crop_fields, placement_fields, pcs_fields}
+use Rattle.pgs_encoding.specs.Encode.{body_bytes, encode, crop_fields, placement_fields, pcs_fields}
 use Rattle.pgs_writer_base.specs.Kinds.{pcs_segment, pcs_rows_writable, placement_row_fits, placement_rows_fit}
-use Rattle.pgs_encoding.specs.Layout.{Field, written, all_fit, each, record_bytes}
+use Rattle.pgs_encoding.specs.Layout.{Field, written, all_fit, each}
 use Rattle.pgs_writer_base.specs.Rows.{placement_from, mark_fits}
-use Rattle.pgs_encoding.specs.Writable.{writable, placement_writable, crop_where}
+use Rattle.pgs_encoding.specs.Writable.{body_writable, placement_writable, crop_where}
 use Rattle.pgs_writer_base.proofs.EachLaws.{bytes-map}
 use Rattle.pgs_writer_base.proofs.FitLaws.{pick-neither, pick-self}
 use Rattle.pgs_writer_base.proofs.PutLaws.{then-sets, wrote}
-use Rattle.pgs_writer_base.proofs.WriteLaws.{body_refused, writable-body}
+use Rattle.pgs_writer_base.proofs.WriteLaws.{TimesFit, body_refused}
 
 -- a crop is marked by 1, and exactly at the flag
 marked : (x : CompositionObjectCrop) (t : Bool) (m : ℕ) → pick (leb m 1) (crop_where t (pick (eqb m 0) None (Some x))) false ≡ pick t (eqb m 1) (eqb m 0)
@@ -49,26 +52,6 @@ module _ (r : List ℕ) where
   -- as a crop
   abbrev cut : CompositionObjectCrop
   cut = record { horizontal_position = get_or r 6 0; vertical_position = get_or r 7 0; width = get_or r 8 0; height = get_or r 9 0 }
-
-  pub crop-none : get_or r 5 0 ≡ 0 → crop_fields (crop_from r) ≡ []
-  crop-none e = simp (eq-eqb (get_or r 5 0) 0 e)
-
-  pub crop-some : (get_or r 5 0 ≡ 0 → ⊥) → crop_fields (crop_from r) ≡ crop
-  crop-some q = simp (ne_eqb (get_or r 5 0) 0 q)
-
-  -- how many bytes a record takes
-  pub size_none : get_or r 5 0 ≡ 0 → length (written (placement_fields (placement_from r))) ≡ 8
-  size_none e = ap (λ (fs : List Field). length (written (before fs))) (crop-none e)
-
-  pub size-some : (get_or r 5 0 ≡ 0 → ⊥) → length (written (placement_fields (placement_from r))) ≡ 16
-  size-some q = ap (λ (fs : List Field). length (written (before fs))) (crop-some q)
-
-  pub size-most : length (written (placement_fields (placement_from r))) ≤ 16
-  size-most = most (eqb (get_or r 5 0) 0)
-    where
-      most : (t : Bool) → length (written (before (crop_fields (pick t None (Some cut))))) ≤ 16
-      most true = omega arith
-      most false = omega arith
 
   module _ (cell : (k : ℕ) → get_or r k 0 < 65536) where
     unfit : all_fit (placement_fields (placement_from r)) ≡ false → placement_row_fits r ≡ false
@@ -134,14 +117,6 @@ module _ (r : List ℕ) where
         refl ee)
         refl
 
-    pub crop-stored : {a b c d : List ℕ} → (get_or r 5 0 ≡ 0 → ⊥) → a ≡ sets m at (bytes_of 2 (get_or r 6 0)) → b ≡ sets a (at + 2) (bytes_of 2 (get_or r 7 0))
-        → c ≡ sets b (at + 4) (bytes_of 2 (get_or r 8 0)) → d ≡ sets c (at + 6) (bytes_of 2 (get_or r 9 0)) → d ≡ sets m at (written (crop_fields (crop_from r)))
-    crop-stored q ea eb ec ed =
-        wrote m at (take 3 crop) 2 (get_or r 9 0)
-        (wrote m at (take 2 crop) 2 (get_or r 8 0) (wrote m at (take 1 crop) 2 (get_or r 7 0) ea refl eb) refl ec)
-        refl ed
-        ∙ sym (ap (λ (fs : List Field). sets m at (written fs)) (crop-some q))
-
 -- the records that can be written
 both : (a b c d : Bool) → pick (pick a c false) (pick b d false) false ≡ pick (pick a b false) (pick c d false) false
 both true true c d = refl
@@ -154,12 +129,6 @@ placements-fit (r ∷ rows) =
     ap (λ (u : Bool). pick (placement_row_fits r) u false) (placements-fit rows)
     ∙ both (mark_fits r) (each mark_fits rows) (placement_writable (placement_from r)) (each placement_writable (map placement_from rows))
 
-pub rows-most : (rows : List (List ℕ)) → length (record_bytes placement_fields (map placement_from rows)) ≤ 16 * length rows
-rows-most [] = omega arith
-rows-most (r ∷ rows) =
-    rw (length-append (written (placement_fields (placement_from r))) (record_bytes placement_fields (map placement_from rows)))
-    (omega (arith, size-most r, rows-most rows))
-
 -- the numbers fit their types
 pub record PcsFits (n : Pcs) : Type 0 where
   pub width : n.width < 65536
@@ -170,28 +139,16 @@ pub record PcsFits (n : Pcs) : Type 0 where
   pub update : n.palette_update_flag < 256
   pub palette : n.palette_id < 256
 
-pub pcs-stored : (n : Pcs) (count : ℕ) (m : List ℕ) {a b c d e f g h : List ℕ} → a ≡ sets m 13 (bytes_of 2 n.width) → b ≡ sets a 15 (bytes_of 2 n.height)
-    → c ≡ sets b 17 (bytes_of 1 n.frame_rate) → d ≡ sets c 18 (bytes_of 2 n.composition_number) → e ≡ sets d 20 (bytes_of 1 n.composition_state)
-    → f ≡ sets e 21 (bytes_of 1 n.palette_update_flag) → g ≡ sets f 22 (bytes_of 1 n.palette_id) → h ≡ sets g 23 (bytes_of 1 count)
-    → h ≡ sets m 13 (written (pcs_fields n count))
-pcs-stored n count m ea eb ec ed ee ef eg eh =
-    let fs = pcs_fields n count in
-    wrote m 13 (take 7 fs) 1 count
-    (wrote m 13 (take 6 fs) 1 n.palette_id
-    (wrote m 13 (take 5 fs) 1 n.palette_update_flag
-    (wrote m 13 (take 4 fs) 1 n.composition_state
-    (wrote m 13 (take 3 fs) 2 n.composition_number
-    (wrote m 13 (take 2 fs) 1 n.frame_rate (wrote m 13 (take 1 fs) 2 n.height ea refl eb) refl ec)
-    refl ed)
-    refl ee)
-    refl ef)
-    refl eg)
-    refl eh
+-- two tests in either order
+swap : (a b c : Bool) → pick a (pick b c false) false ≡ pick b (pick a c false) false
+swap true b c = refl
+swap false b c = sym (pick-neither b)
 
-module _ (p d : ℕ) (n : Pcs) (rows : List (List ℕ)) where
-  pub pcs-length : length (body_bytes (pcs n (map placement_from rows))) ≡ 11 + length (record_bytes placement_fields (map placement_from rows))
-  pcs-length = length-append (written (pcs_fields n (length (map placement_from rows)))) (record_bytes placement_fields (map placement_from rows))
+-- what a row of a placement stands for
+abbrev pub placement_row_fields : List ℕ → List Field
+placement_row_fields r = placement_fields (placement_from r)
 
+module _ (t : Timestamps) (n : Pcs) (rows : List (List ℕ)) where
   -- of the numbers, the count decides
   count_fits : PcsFits n → all_fit (pcs_fields n (length (map placement_from rows))) ≡ ltb (length rows) 256
   count_fits ok =
@@ -206,37 +163,30 @@ module _ (p d : ℕ) (n : Pcs) (rows : List (List ℕ)) where
         length-map rows placement_from,
       ) (sym (pick-self (ltb (length rows) 256)))
 
-  pub pcs-many : PcsFits n → 255 < length rows → pcs_rows_writable p d n rows ≡ false
+  -- more placements than it can name
+  pub pcs-many : PcsFits n → 255 < length rows → pcs_rows_writable t.pts t.dts n rows ≡ false
   pcs-many ok h =
       let none : all_fit (pcs_fields n (length (map placement_from rows))) ≡ false = count_fits ok ∙ le-ltb (length rows) 256 (omega arith) in
-      ap (λ (t : Bool). pick (each mark_fits rows) t false)
-      (body_refused (pcs_segment p d n rows) (ap (λ (t : Bool). pick t (each placement_writable (map placement_from rows)) false) none))
+      ap (λ (u : Bool). pick (each mark_fits rows) u false)
+      (body_refused (pcs_segment t.pts t.dts n rows) (ap (λ (u : Bool). pick u (each placement_writable (map placement_from rows)) false) none))
       ∙ pick-neither (each mark_fits rows)
 
-  pub pcs-unfit : placement_rows_fit rows ≡ false → pcs_rows_writable p d n rows ≡ false
-  pcs-unfit = go (each mark_fits rows)
-    where
-      go : (t : Bool) → pick t (each placement_writable (map placement_from rows)) false ≡ false → pick t (writable (pcs_segment p d n rows)) false ≡ false
-      go true e =
-          let s = all_fit (pcs_fields n (length (map placement_from rows))) in
-          body_refused (pcs_segment p d n rows) (ap (λ (t : Bool). pick s t false) e ∙ pick-neither s)
-      go false e = refl
-
-  pub pcs-writable : p < 2 ^ 32 → d < 2 ^ 32 → PcsFits n → length rows ≤ 255 → placement_rows_fit rows ≡ true → pcs_rows_writable p d n rows ≡ true
-  pcs-writable hp hd ok h e =
-      let marks : each mark_fits rows ≡ true = first_fits (each mark_fits rows) _ e in
-      let fit : each placement_writable (map placement_from rows) ≡ true = rest-fits (each mark_fits rows) _ e in
-      let count : all_fit (pcs_fields n (length (map placement_from rows))) ≡ true = count_fits ok ∙ lt-ltb (length rows) 256 (omega arith) in
-      let all : writable (pcs_segment p d n rows) ≡ true
-      = writable-body (pcs_segment p d n rows) hp hd (omega arith) (omega (arith, pcs-length, rows-most rows)) (λ i. pick (count i) (fit i) false) in
-      λ i. pick (marks i) (all i) false
-
   -- the numbers, then the placements
-  pub pcs-body : (m : List ℕ) {a b : List ℕ} → a ≡ sets m 13 (written (pcs_fields n (length rows))) → b ≡ sets a 24 (record_bytes (λ (r : List ℕ). placement_fields (placement_from r)) rows)
-      → b ≡ sets m 13 (body_bytes (pcs n (map placement_from rows)))
-  pcs-body m {a} e r =
-      let placed = record_bytes placement_fields (map placement_from rows) in
-      r
-      ∙ ap (sets a 24) (bytes-map placement_from placement_fields rows)
-      ∙ (then-sets m 13 (written (pcs_fields n (length rows))) placed e refl
-      ∙ ap (λ (k : ℕ). sets m 13 (written (pcs_fields n k) ++ placed)) (sym (length-map rows placement_from)))
+  pub pcs-answer : {count : ℕ} {numbers before after : List ℕ} {o : Outcome ℕ} → TimesFit t → PcsFits n → count ≡ length rows → count < 256
+      → numbers ≡ written (pcs_fields n count)
+      → Answered (list_fits placement_row_fields placement_row_fits numbers rows) (segment_bytes t kinds.Pcs (list_body placement_row_fields numbers rows)) before after o
+      → Answered (pcs_rows_writable t.pts t.dts n rows) (encode (pcs_segment t.pts t.dts n rows)) before after o
+  pcs-answer {count} {numbers} ok fit e h q =
+      let ps = map placement_from rows in
+      let many : count ≡ length ps = e ∙ sym (length-map rows placement_from) in
+      let head : numbers ≡ written (pcs_fields n (length ps)) = q ∙ ap (λ (k : ℕ). written (pcs_fields n k)) many in
+      let records = bytes-map placement_from placement_fields rows in
+      let body : list_body placement_row_fields numbers rows ≡ body_bytes (pcs n ps) = λ i. head i ++ records i in
+      let fits : each placement_writable ps ≡ body_writable (pcs n ps)
+      = sym (ap (λ (u : Bool). pick u (each placement_writable ps) false) (count_fits fit ∙ lt-ltb (length rows) 256 (omega arith))) in
+      let size = is_body_size (length (list_body placement_row_fields numbers rows)) in
+      let test : list_fits placement_row_fields placement_row_fits numbers rows ≡ pcs_rows_writable t.pts t.dts n rows
+      = ap (λ (u : Bool). pick size u false) (placements-fit rows)
+      ∙ (swap size (each mark_fits rows) (each placement_writable ps)
+      ∙ ap (λ (u : Bool). pick (each mark_fits rows) u false) (fit-as t ok kinds.Pcs (pcs n ps) refl (omega arith) body fits)) in
+      same-answer test (bytes-as t ok kinds.Pcs (pcs n ps) refl (omega arith) body)

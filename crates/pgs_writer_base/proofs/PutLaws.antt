@@ -1,12 +1,14 @@
 -- Stores that follow one another. Assumes nothing.
 use mathlib.Core.Path.{◌≡◌, refl, sym, ap, ◌∙◌}
+use mathlib.Core.Bool.{Bool, true, false}
 use mathlib.Core.List.{List, [], ◌∷◌, ◌++◌, append-nil, append_assoc}
-use Prim.Native.Nat.{ℕ, suc, ◌+◌, ◌≤◌, ◌<◌, ◌%◌}
+use Prim.Native.Nat.{ℕ, suc, min, ◌+◌, ◌-◌, ◌≤◌, ◌%◌}
 use native.Mathlib.Nat.{add-suc, suc-add, add-zero}
-use native.Mathlib.Numerals.{add-one}
 use native.Mathlib.Omega.{arith}
-use lib.ListN.{length, take, drop, set, get_or, length-set}
-use lib.Seq.{sets, set_out, sets-eq, drop-drop, drop-cons, drop-length}
+use borrow.Author.Tests.{leb-true, leb-false}
+use lib.Dec.{leb}
+use lib.ListN.{length, take, drop, set, take-append-drop, drop_of_length-le}
+use lib.Seq.{sets, set_out, sets-eq, drop-drop, length-take-le, length-sets}
 use Rattle.pgs_base.specs.Bytes.{bytes_of}
 use Rattle.pgs_base.specs.Outcome.{accepted, laid}
 use Rattle.pgs_encoding.specs.Layout.{Field, written}
@@ -44,33 +46,24 @@ sets-part l i vs h = rw (drop-drop (length vs) i l) (sym (sets-eq vs l i h ∙ a
 pub low-byte : (n : ℕ) → bytes_of 1 (n % 256) ≡ bytes_of 1 n
 low-byte n = let e : n % 256 % 256 ≡ n % 256 = omega arith in ap (λ (k : ℕ). k ∷ []) e
 
--- i elements of `bytes` are stored from place `at` on: storing the others gives the whole
-pub record Copying (start : List ℕ) (at : ℕ) (bytes now : List ℕ) (i : ℕ) : Type 0 where
-  pub upto : i ≤ length bytes
-  pub same : length now ≡ length start
-  pub left : sets now (at + i) (drop i bytes) ≡ sets start at bytes
-
-module _ (start : List ℕ) (at : ℕ) (bytes : List ℕ) where
-  pub copying : Copying start at bytes start 0
-  copying = record { upto = omega arith; same = refl; left = ap (λ (k : ℕ). sets start k bytes) (add-zero at) }
-
-  pub copies-on : {now : List ℕ} {i : ℕ} → Copying start at bytes now i → i < length bytes
-      → Copying start at bytes (set now (at + i) (get_or bytes i 0)) (i + 1)
-  copies-on {now} {i} c h =
-      record {
-        upto = omega arith;
-        same = length-set now (at + i) (get_or bytes i 0) ∙ c.same;
-        left =
-            (let e : at + (i + 1) ≡ suc (at + i) = omega arith in
-            let d : drop (i + 1) bytes ≡ drop (suc i) bytes = ap (λ (k : ℕ). drop k bytes) (add-one i) in
-            λ j. sets (set now (at + i) (get_or bytes i 0)) (e j) (d j))
-            ∙ (ap (sets now (at + i)) (sym (drop-cons bytes i 0 h)) ∙ c.left);
-      }
-
-  pub copied : {now : List ℕ} {i : ℕ} → Copying start at bytes now i → length bytes ≤ i → now ≡ sets start at bytes
-  copied {now} {i} c h =
-      let e : i ≡ length bytes = omega (arith, c.upto) in
-      sym (ap (λ (k : ℕ). sets now (at + i) (drop k bytes)) e ∙ ap (sets now (at + i)) (drop-length bytes)) ∙ c.left
+-- what is past the end is left out
+pub sets-trim : {A : Type 0} (l : List A) (i : ℕ) {n : ℕ} (vs : List A) → i ≤ length l → n ≡ min (length vs) (length l - i)
+    → take i l ++ (take n vs ++ drop n (drop i l)) ≡ sets l i vs
+sets-trim l i {n} vs h e =
+    let short : length (take n vs) ≡ n = length-take-le n vs (omega arith) in
+    ap (λ (k : ℕ). take i l ++ (take n vs ++ drop k (drop i l))) (sym short)
+    ∙ (sets-part l i (take n vs) (omega arith)
+    ∙ (rest short (leb (length vs) (length l - i)) refl
+    ∙ (sets-append l i (take n vs) (drop n vs) ∙ ap (sets l i) (take-append-drop n vs))))
+  where
+    rest : length (take n vs) ≡ n → (t : Bool) → leb (length vs) (length l - i) ≡ t
+        → sets l i (take n vs) ≡ sets (sets l i (take n vs)) (i + length (take n vs)) (drop n vs)
+    rest short true q =
+        let all : length vs ≤ n = omega (arith, leb-true (length vs) (length l - i) q) in
+        sym (ap (sets (sets l i (take n vs)) (i + length (take n vs))) (drop_of_length-le vs all))
+    rest short false q =
+        sets-out (sets l i (take n vs)) (i + length (take n vs)) (drop n vs)
+        (omega (arith, leb-false (length vs) (length l - i) q, length-sets l i (take n vs)))
 
 -- one field more behind those that are stored
 pub wrote : (l : List ℕ) (i : ℕ) (fs : List Field) (w n : ℕ) {m m' : List ℕ} {j : ℕ} → m ≡ sets l i (written fs) → j ≡ i + total (widths fs)

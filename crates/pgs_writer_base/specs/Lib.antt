@@ -1,3 +1,4 @@
 pub mod Answers
+pub mod Bodies
 pub mod Kinds
 pub mod Rows

@@ -3,8 +3,10 @@ ghost use Rattle.std.specs.Prelude.{◌≡◌};
 ghost use Rattle.std.proofs.lemmas.List.Edits.{sets};
 ghost use Rattle.pgs_encoding.specs.Encode.{head_fields};
 ghost use Rattle.pgs_encoding.specs.Layout.{written};
+ghost use Rattle.pgs_views.specs.Kinds.{raw_of};
 
 use crate::put::{put_u8, put_u16, put_u32};
+use pgs_views::segment_type::SegmentType;
 
 // The two times of a segment.
 #[derive(Clone, Copy, Debug, PartialEq, Eq)]
@@ -14,13 +16,13 @@ pub struct Timestamps {
 }
 
 // Stores a head at the front of the output, or as much of it as fits.
-pub fn put_head(out: &mut [u8], times: Timestamps, kind: u8, size: u16)
-    ensures { out.new ≡ sets out.old 0 (written (head_fields times.pts times.dts kind size)) }
+pub fn put_head(out: &mut [u8], times: Timestamps, kind: SegmentType, size: u16)
+    ensures { out.new ≡ sets out.old 0 (written (head_fields times.pts times.dts (raw_of kind) size)) }
 {
     put_u8(out, 0, 0x50);
     put_u8(out, 1, 0x47);
     put_u32(out, 2, times.pts);
     put_u32(out, 6, times.dts);
-    put_u8(out, 10, kind);
+    put_u8(out, 10, u8::from(kind));
     put_u16(out, 11, size);
 }

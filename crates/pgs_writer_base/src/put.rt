@@ -1,28 +1,20 @@
 // Numbers stored at a place. A byte whose place is past the end is left out.
-ghost use Rattle.std.specs.Prelude.{◌≡◌, set};
+ghost use Rattle.std.specs.Prelude.{◌≡◌};
 ghost use Rattle.std.proofs.lemmas.List.Edits.{sets};
 ghost use Rattle.pgs_base.specs.Bytes.{bytes_of};
 
-fn put_byte(out: &mut [u8], at: usize, byte: u8)
-    ensures { out.new ≡ set out.old at byte }
+// The bytes from a place on, as many as there is room for.
+pub fn put_bytes(out: &mut [u8], at: usize, bytes: &[u8])
+    ensures { out.new ≡ sets out.old at bytes.now }
 {
     if at < out.len() {
-        out[at] = byte;
+        let n = bytes.len().min(out.len() - at);
+        out[at..at + n].copy_from_slice(&bytes[..n]);
     }
 }
 
-// The bytes one after another, each at its place.
-fn put_bytes(out: &mut [u8], at: usize, bytes: &[u8])
-    ensures { out.new ≡ sets out.old at bytes.now }
-{
-    // None fits; from a place within the output on, the sum below cannot wrap.
-    if out.len() <= at {
-        return;
-    }
-    for (i, byte) in bytes.iter().enumerate() {
-        put_byte(out, at + i, *byte);
-    }
-}
+// The largest number of one byte, among cells of two.
+pub const ONE_BYTE: u16 = u8::MAX as u16;
 
 pub fn put_u8(out: &mut [u8], at: usize, n: u8)
     ensures { out.new ≡ sets out.old at (bytes_of 1 n) }

@@ -1,5 +1,5 @@
 // The rows of a caller's list, written as the fields of records.
-ghost use Rattle.std.specs.Prelude.{◌≡◌, ◌≤◌, ℕ, Bool, List, length};
+ghost use Rattle.std.specs.Prelude.{◌≡◌, ℕ, Bool, List, length};
 ghost use Rattle.std.proofs.lemmas.List.Edits.{sets};
 ghost use Rattle.pgs_encoding.specs.Layout.{Field, written, each, record_bytes};
 
@@ -17,9 +17,8 @@ pub trait RowWriter {
         ensures { result ≡ fits row };
 
     // How many bytes it takes.
-    fn size(row: Self::Row) -> usize
-        ensures value { result ≡ length (written (fields row)) }
-        ensures most { result ≤ 16 };
+    fn size(row: Self::Row) -> u16
+        ensures { result ≡ length (written (fields row)) };
 
     // Stores it at a place. What is past the end is left out.
     fn put(out: &mut [u8], at: usize, row: Self::Row)
@@ -42,6 +41,6 @@ pub fn put_rows<W: RowWriter>(out: &mut [u8], first: usize, rows: &[W::Row])
             return;
         }
         W::put(out, at, *row);
-        at += W::size(*row);
+        at += usize::from(W::size(*row));
     }
 }

@@ -1,23 +1,23 @@
 // The writer of a PDS.
-ghost use Rattle.std.specs.Prelude.{length};
-ghost use Rattle.pgs_base.specs.Outcome.{outcome, Delivered};
-ghost use Rattle.pgs_encoding.specs.Encode.{encode};
 ghost use Rattle.pgs_encoding.specs.Encode.{entry_fields};
-ghost use Rattle.pgs_writer_base.specs.Kinds.{pds_segment};
 ghost use Rattle.pgs_encoding.specs.Layout.{all_fit};
+ghost use Rattle.pgs_writer_base.specs.Answers.{Wrote};
+ghost use Rattle.pgs_writer_base.specs.Kinds.{pds_segment};
 ghost use Rattle.pgs_writer_base.specs.Rows.{entry_from};
-ghost use Rattle.pgs_encoding.specs.Writable.{write_verdict};
 
 use pgs_base::refusal::Refusal;
-use pgs_pds::pds::Pds;
-use pgs_writer_base::head::{Timestamps, put_head};
-use pgs_writer_base::put::put_u8;
-use pgs_writer_base::rows::{RowWriter, put_rows, rows_fit};
+use pgs_pds::pds::{PaletteEntry, Pds};
+use pgs_views::segment_type::SegmentType;
+use pgs_writer_base::body::encode_list;
+use pgs_writer_base::head::Timestamps;
+use pgs_writer_base::put::put_bytes;
+use pgs_writer_base::rows::RowWriter;
 
 // How entries are written.
 struct Entries;
 
 impl RowWriter for Entries {
+    // Stays a row: the C interface lends rows.
     type Row = [u8; 5];
 
     ghost fields = { λ row. entry_fields (entry_from row) };
@@ -29,19 +29,12 @@ impl RowWriter for Entries {
         true
     }
 
-    fn size(_: [u8; 5]) -> usize {
-        5
+    fn size(_: [u8; 5]) -> u16 {
+        PaletteEntry::SIZE as u16
     }
 
     fn put(out: &mut [u8], at: usize, row: [u8; 5]) {
-        if out.len() <= at {
-            return;
-        }
-        put_u8(out, at, row[0]);
-        put_u8(out, at + 1, row[1]);
-        put_u8(out, at + 2, row[2]);
-        put_u8(out, at + 3, row[3]);
-        put_u8(out, at + 4, row[4]);
+        put_bytes(out, at, &row);
     }
 }
 
@@ -52,23 +45,8 @@ pub fn encode_pds(
     entries: &[[u8; 5]],
     out: &mut [u8],
 ) -> Result<usize, Refusal>
-    ensures { Delivered (write_verdict (pds_segment times.pts times.dts pds entries.now)) (length (encode (pds_segment times.pts times.dts pds entries.now))) (encode (pds_segment times.pts times.dts pds entries.now)) out.old out.new (outcome result) }
+    ensures { Wrote (pds_segment times.pts times.dts pds entries.now) out.old out.new result }
 {
-    let n = entries.len();
-    if 13106 < n {
-        return Err(Refusal::NotEncodable);
-    }
-    if !rows_fit::<Entries>(entries) {
-        return Err(Refusal::NotEncodable);
-    }
-    let size = 2 + 5 * n;
-    let total = 13 + size;
-    if out.len() < total {
-        return Err(Refusal::BufferTooSmall);
-    }
-    put_head(out, times, 0x14, size as u16);
-    put_u8(out, 13, pds.palette_id);
-    put_u8(out, 14, pds.palette_version_number);
-    put_rows::<Entries>(out, 15, entries);
-    Ok(total)
+    let numbers = [pds.palette_id, pds.palette_version_number];
+    encode_list::<Entries>(times, SegmentType::Pds, &numbers, entries, out)
 }

@@ -1,11 +1,10 @@
 -- The text fits the buffer. Assumes nothing.
 use mathlib.Core.Path.{◌≡◌, sym, ap, ◌∙◌}
 use mathlib.Core.List.{List}
-use Prim.Native.Nat.{ℕ, ◌≤◌}
+use Prim.Native.Nat.{ℕ}
 use native.Mathlib.Omega.{arith}
 use borrow.Author.Tests.{le-leb}
-use lib.ListN.{length, take, drop, length-append}
-use lib.Seq.{length-take-le}
+use lib.ListN.{length}
 use Rattle.pgs_base.specs.Outcome.{Verdict, accepted, refused, gives, refuses, laid, unless, Delivered}
 use Rattle.pgs_base.proofs.Outcomes.{delivered, delivered-value, delivered-refusal}
 use Rattle.pgs_cards.specs.Reports.{input_limit, report_of}
@@ -23,11 +22,3 @@ module _ (s : List ℕ) {out out' : List ℕ} where
       let q : accepted ≡ refused k
       = sym (ap (unless 34) (le-leb (length (report_of s)) (length out) (omega (arith, report-short s)))) ∙ delivered-refusal d in
       let z : ◌≡◌ {A = ℕ} 0 1 = cc in omega arith
-
--- what is printed is a part of the buffer
-module _ {s out out' : List ℕ} {n : ℕ} (r : Reported s out out' n) where
-  pub printed-within : n ≤ length out'
-  printed-within = omega (arith, r.counted, ap length r.written, length-append (report_of s) (drop (length (report_of s)) out))
-
-  pub printed-part : n ≡ length (take n out')
-  printed-part = sym (length-take-le n out' printed-within)

@@ -23,7 +23,7 @@ fn read_full(reader: &mut impl Read, buf: &mut [u8]) -> io::Result<usize>
     ensures { IfOk result (λ n. n ≤ length buf.new) }
 {
     let mut got: usize = 0;
-    // Stays a loop: the step is as long as what the reader gave, which no range counts.
+    // Stays a loop: `read_to_end` needs a heap, and `read_exact` does not say how much came of an input that ends before.
     while got < buf.len() {
         let n = reader.read(&mut buf[got..])?;
         if n == 0 {

@@ -1,6 +1,7 @@
 // Fields that no segment can hold are refused by 35, before an output that is too short is by 34.
 use crate::show;
-use pgs_ods::ods::{Dimensions, Ods};
+use pgs_base::dimensions::Dimensions;
+use pgs_ods::ods::Ods;
 use pgs_pcs::pcs::Pcs;
 use pgs_writer::end::encode_end;
 use pgs_writer::ods::encode_ods;
@@ -11,6 +12,9 @@ use pgs_writer_pcs::pcs::encode_pcs;
 use std::io;
 
 const TIMES: Timestamps = Timestamps { pts: 1, dts: 2 };
+
+// The largest declared length.
+const LONGEST: u32 = (1 << 24) - 1;
 
 // Writes a PCS with one placement.
 fn placement(rt: &impl Print, title: &str, p: [u16; 10], out: &mut [u8]) -> io::Result<()> {
@@ -108,12 +112,19 @@ fn fragments(rt: &impl Print) -> io::Result<()> {
         &mut [0xEE; 26],
     )?;
     fragment(rt, "none at a first one", 0x80, 6, None, &mut [0xEE; 26])?;
-    fragment(rt, "declared 2^24", 0xC0, 0x100_0000, size, &mut [0xEE; 26])?;
+    fragment(
+        rt,
+        "declared 2^24",
+        0xC0,
+        LONGEST + 1,
+        size,
+        &mut [0xEE; 26],
+    )?;
     fragment(
         rt,
         "declared 2^24 - 1, into 25",
         0xC0,
-        0xFF_FFFF,
+        LONGEST,
         size,
         &mut [0xEE; 25],
     )?;
@@ -121,7 +132,7 @@ fn fragments(rt: &impl Print) -> io::Result<()> {
         rt,
         "declared 2^24 - 1, into 26",
         0xC0,
-        0xFF_FFFF,
+        LONGEST,
         size,
         &mut [0xEE; 26],
     )

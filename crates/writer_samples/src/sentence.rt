@@ -1,16 +1,22 @@
 // A long accented sentence: a placement for each letter, and one for each accent, which is cropped out of a sheet of accents.
 // The published Rust stores 256 placements as a count of 0, so that a reader loses the sentence.
+ghost use Rattle.std.specs.Prelude.{◌<◌};
+
 use crate::show;
 use pgs_base::refusal::Refusal;
 use pgs_pcs::pcs::Pcs;
+use pgs_segment::header::SegmentHeader;
 use pgs_segment::segment::Segment;
 use pgs_writer_base::head::Timestamps;
 use pgs_writer_pcs::pcs::encode_pcs;
-use std::io;
+use std::{array, io};
+
+// As many as a count of one byte can name.
+const MOST: usize = u8::MAX as usize;
 
 // Sign i: every third is an accent.
 fn sign(i: u8) -> [u16; 10] {
-    let n = i as u16;
+    let n = u16::from(i);
     if n % 3 == 2 {
         [300, 1, 0x40, 7 * n, 980, 1, 12 * (n % 5), 3, 12, 10]
     } else {
@@ -18,12 +24,12 @@ fn sign(i: u8) -> [u16; 10] {
     }
 }
 
-fn sentence() -> [[u16; 10]; 256] {
-    let mut signs = [[0u16; 10]; 256];
-    for i in 0..=255u8 {
-        signs[i as usize] = sign(i);
-    }
-    signs
+fn sentence() -> [[u16; 10]; MOST + 1] {
+    array::from_fn(
+        |i: usize| -> [u16; 10]
+            requires { i < 256 }
+        { sign(i as u8) },
+    )
 }
 
 fn numbers() -> Pcs {
@@ -54,7 +60,7 @@ fn print_numbers(rt: &impl Print, p: Pcs) -> io::Result<()> {
 // The head of the segment, and how many bytes it takes.
 fn read_head(rt: &impl Print, bytes: &[u8]) -> io::Result<()> {
     match Segment::parse(bytes) {
-        Err(why) => print!(rt; "read back: refused {}", why.number()),
+        Err(why) => print!(rt; "read back: refused {why}"),
         Ok(s) => {
             let head = s.header;
             print!(rt;
@@ -67,9 +73,9 @@ fn read_head(rt: &impl Print, bytes: &[u8]) -> io::Result<()> {
 
 // The numbers and the placements, which are compared with those that were written.
 fn read_body(rt: &impl Print, body: &[u8], wanted: &[[u16; 10]]) -> io::Result<()> {
-    let mut found = [[0u16; 10]; 255];
+    let mut found = [[0u16; 10]; MOST];
     match Pcs::parse(body, &mut found) {
-        Err(why) => print!(rt; ": refused {}", why.number()),
+        Err(why) => print!(rt; ": refused {why}"),
         Ok((pcs, n)) => {
             print_numbers(rt, pcs)?;
             let state = if n == wanted.len() && found.starts_with(wanted) {
@@ -92,13 +98,13 @@ fn read_back(
     match answer {
         Err(why) => show::refused(rt, why, out),
         Ok(n) => {
-            if n < 13 || out.len() < n {
+            if n < SegmentHeader::SIZE || out.len() < n {
                 return Ok(());
             }
             print!(rt; ": written {n} bytes, behind them")?;
             show::unchanged(rt, &out[n..])?;
             read_head(rt, out)?;
-            read_body(rt, &out[13..n], wanted)
+            read_body(rt, &out[SegmentHeader::SIZE..n], wanted)
         }
     }
 }
@@ -117,6 +123,6 @@ fn write_signs(rt: &impl Print, title: &str, signs: &[[u16; 10]]) -> io::Result<
 
 pub(crate) fn samples(rt: &impl Print) -> io::Result<()> {
     let signs = sentence();
-    write_signs(rt, "255 placements", &signs[..255])?;
+    write_signs(rt, "255 placements", &signs[..MOST])?;
     write_signs(rt, "256 placements", &signs)
 }

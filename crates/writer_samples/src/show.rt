@@ -22,7 +22,7 @@ pub(crate) fn unchanged(rt: &impl Print, s: &[u8]) -> io::Result<()> {
 
 // A refusal, and whether the output is as it was.
 pub(crate) fn refused(rt: &impl Print, why: Refusal, out: &[u8]) -> io::Result<()> {
-    print!(rt; ": refused {},", why.number())?;
+    print!(rt; ": refused {why},")?;
     unchanged(rt, out)
 }
 

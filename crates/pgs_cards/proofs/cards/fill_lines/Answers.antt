@@ -1,36 +1,35 @@
 use Rattle.std.specs.Prelude.{Result, Ok, Err}
 use Rattle.std.specs.Result.{IsOk}
-use Rattle.pgs_base.specs.Outcome.{gives, outcome, outcome_of}
+use Rattle.pgs_base.specs.Outcome.{outcome}
 use Rattle.pgs_base.specs.declared.refusal.Refusal.{Refusal}
-use Rattle.pgs_segment.specs.OneSegment.{segment_verdict, segment_of}
-use Rattle.pgs_segment.specs.declared.segment.Segment.{Segment}
-use Rattle.pgs_cards.proofs.FillLaws.{Writing, answer_at, writing, writes-all, never-refused, writes-within, writes-far, goes_on, line-fits, line-put}
+use Rattle.pgs_records.specs.declared.BodyList.{BodyList}
+use Rattle.pgs_segment.specs.declared.segment.SegmentBody.{SegmentBody}
+use Rattle.pgs_stream.specs.Segments.{segments_left}
+use Rattle.pgs_stream.specs.declared.segments.PlacedSegment.{PlacedSegment}
+use Rattle.pgs_views.specs.Kinds.{type_of}
+use Rattle.pgs_views.specs.declared.segment_type.SegmentType.{SegmentType}
+use Rattle.pgs_cards.proofs.FillLaws.{Writing, answer, writing, writes-all, never-refused, more_fit, goes_on, line-fits, line-put}
+use Rattle.pgs_cards.specs.Walks.{no_card}
 use Rattle.pgs_cards.specs.declared.card.Card.{Card}
-use Prim.Native.Nat.{ℕ, ◌+◌, ◌-◌, ◌<◌}
+use Prim.Native.Nat.{ℕ, ◌+◌, ◌-◌, ◌≤◌}
 use lib.ListN.{length, take, drop, length-take, length-drop}
-use mathlib.Core.List.{List}
+use mathlib.Core.List.{List, ◌∷◌}
 use mathlib.Core.Path.{◌≡◌, refl, sym, ap, ◌∙◌}
 use native.Mathlib.Omega.{arith}
-use Rattle.pgs_cards.proofs.cards.fill_lines.Goals.{then-is_end, else-is_end}
+use Rattle.pgs_cards.proofs.cards.fill_lines.Goals.{In-Some, Then-is_end}
 use Rattle.pgs_cards.proofs.cards.fill_lines.Goals as goal
 
--- what reading the segment here answered
-module _ (s : List ℕ) (at : ℕ) (r : Result Segment Refusal)
-    (e : outcome r ≡ outcome_of (segment_verdict (take (length s - at) (drop at s))) (segment_of (take (length s - at) (drop at s)))) where
-  given : {g : Segment} → r ≡ Ok g → gives g ≡ outcome_of (segment_verdict (drop at s)) (segment_of (drop at s))
-  given q = answer_at s at (ap outcome (sym q) ∙ e)
+-- the segment here, and those behind it
+here : (c : In-Some)
+    → Writing c.args.sets.stream.now c.args.out.now c.loop-segment.out c.loop-segment.card
+    (c.in-Some.segment ∷ segments_left c.next.new.self) c.loop-segment.k
+here c = rw c.in-Some.ensures.steps at c.loop-segment.invariant
 
--- it is a segment, since the stream is accepted
-read_whole : (s : List ℕ) {start now : List ℕ} {d : Card} {at k : ℕ} (r : Result Segment Refusal) → Writing s start now d at k → at < length s
-    → outcome r ≡ outcome_of (segment_verdict (take (length s - at) (drop at s))) (segment_of (take (length s - at) (drop at s))) → IsOk r
-read_whole s (Ok g) w m e = refl
-read_whole s {at = at} (Err y) w m e = absurd (never-refused s w m (answer_at s at e))
-
-pub loop-at-init : goal.loop-at-init
-loop-at-init c =
+pub loop-segment-init : goal.loop-segment-init
+loop-segment-init c =
     let d = c.default-card.ensures in
-    writing c.args.s.now c.args.out.now c.requires.s_value
-    (λ j. record {
+    let none : c.default-card.result ≡ no_card
+    = λ j. record {
       place = d.0 j;
       pts = d.1.0 j;
       composition_number = d.1.1.0 j;
@@ -39,82 +38,56 @@ loop-at-init c =
       objects = d.1.1.1.1.1.0 j;
       width = d.1.1.1.1.1.1.0 j;
       height = d.1.1.1.1.1.1.1 j;
-    })
+    } in
+    writing c.args.sets.stream.now c.args.out.now c.args.sets.verdict none (ap segments_left c.into_iter-segment-iterator.ensures.into_iter_gives)
 
-pub slice_bounds-parse-count : goal.slice_bounds-parse-count
-slice_bounds-parse-count c = c.loop-at.invariant.inside
+-- the body is no error, since its segment is accepted
+read_whole : (s : List ℕ) {start now : List ℕ} {d : Card} {x : PlacedSegment} {xs : List PlacedSegment} {k : ℕ} {t : SegmentType}
+    (r : Result (SegmentBody × BodyList) Refusal) → Writing s start now d (x ∷ xs) k → t ≡ type_of x.header.segment_type
+    → outcome r ≡ answer t (take (x.end - (x.at + 13)) (drop (x.at + 13) s)) → IsOk r
+read_whole s (Ok b) w q e = refl
+read_whole s (Err y) w q e = absurd (never-refused s w q e)
 
-pub slice_bounds-parse-start : goal.slice_bounds-parse-start
-slice_bounds-parse-start c = omega (arith, c.loop-at.invariant.inside)
+pub unwrap-body-requires : goal.unwrap-body-requires
+unwrap-body-requires c =
+    read_whole c.args.sets.stream.now c.parse.result (here (goal.at.unwrap-body-requires c).In-Some) c.kind-kind.ensures (rw c.body-bytes.ensures at c.parse.ensures)
 
-pub unwrap-segment-requires : goal.unwrap-segment-requires
-unwrap-segment-requires c = read_whole c.args.s.now c.parse.result c.loop-at.invariant c.loop-at-test.true c.parse.ensures
+-- the line has its place
+fits : (c : Then-is_end) → c.loop-segment.k + 35 ≤ length c.loop-segment.out
+fits c =
+    line-fits c.args.sets.stream.now (rw c.in-Some.ensures.steps at c.loop-segment.invariant) c.kind-kind.ensures
+    (ap outcome (sym c.unwrap-body.ensures) ∙ (rw c.body-bytes.ensures at c.parse.ensures)) c.is_end.ensures
+    c.if-is_end.true c.requires
 
 pub overflow_add-end : goal.overflow_add-end
-overflow_add-end c =
-    omega (
-      arith,
-      line-fits c.args.s.now c.loop-at.invariant c.loop-at-test.true
-          (given c.args.s.now c.loop-at.at c.parse.result c.parse.ensures c.unwrap-segment.ensures) c.is_end.ensures c.if-is_end.true
-          c.requires.s_in_bounds,
-      c.loop-at.invariant.front.same,
-      c.well_formed.1.0.0,
-    )
+overflow_add-end c = omega (arith, fits (goal.at.overflow_add-end c).Then-is_end, c.loop-segment.auto.out, c.well_formed)
 
 pub slice_bounds-put_line-end : goal.slice_bounds-put_line-end
-slice_bounds-put_line-end c =
-    omega (
-      arith,
-      line-fits c.args.s.now c.loop-at.invariant c.loop-at-test.true
-          (given c.args.s.now c.loop-at.at c.parse.result c.parse.ensures c.unwrap-segment.ensures) c.is_end.ensures c.if-is_end.true
-          c.requires.s_in_bounds,
-    )
+slice_bounds-put_line-end c = fits (goal.at.slice_bounds-put_line-end c).Then-is_end
 
 pub put_line-requires : goal.put_line-requires
 put_line-requires c =
+    let d = (goal.at.put_line-requires c).Then-is_end in
     omega (
       arith,
-      line-fits c.args.s.now c.loop-at.invariant c.loop-at-test.true
-          (given c.args.s.now c.loop-at.at c.parse.result c.parse.ensures c.unwrap-segment.ensures) c.is_end.ensures c.if-is_end.true
-          c.requires.s_in_bounds,
-      length-take (c.loop-at.k + 35 - c.loop-at.k) (drop c.loop-at.k c.loop-at.out),
-      length-drop c.loop-at.k c.loop-at.out,
+      fits d,
+      length-take (c.loop-segment.k + 35 - c.loop-segment.k) (drop c.loop-segment.k c.loop-segment.out),
+      length-drop c.loop-segment.k c.loop-segment.out,
     )
 
 pub after-card-requires : goal.after-card-requires
-after-card-requires c = omega (arith, c.loop-at.invariant.few, c.loop-at-test.true, c.well_formed.0.0)
+after-card-requires c = omega (arith, more_fit c.args.sets.stream.now (here (goal.at.after-card-requires c).In-Some), c.well_formed)
 
-pub overflow_add-at : goal.overflow_add-at
-overflow_add-at c =
-    omega (
-      arith,
-      c.well_formed.0.0,
-      writes-within c.args.s.now c.loop-at.invariant c.loop-at-test.true
-          (given c.args.s.now c.loop-at.at c.parse.result c.parse.ensures c.unwrap-segment.ensures),
-    )
+pub loop-segment-preserved-then-is_end : goal.loop-segment-preserved-then-is_end
+loop-segment-preserved-then-is_end c =
+    line-put c.args.sets.stream.now (here (goal.at.loop-segment-preserved-then-is_end c).In-Some) c.kind-kind.ensures
+    (ap outcome (sym c.unwrap-body.ensures) ∙ (rw c.body-bytes.ensures at c.parse.ensures)) c.is_end.ensures
+    c.if-is_end.true c.requires c.put_line.ensures
 
-pub loop-at-smaller : goal.loop-at-smaller
-loop-at-smaller c =
-    let e = given c.args.s.now c.loop-at.at c.parse.result c.parse.ensures c.unwrap-segment.ensures in
-    omega (
-      arith,
-      writes-within c.args.s.now c.loop-at.invariant c.loop-at-test.true e,
-      writes-far c.args.s.now c.loop-at.invariant c.loop-at-test.true e,
-    )
-
-pub loop-at-preserved : goal.loop-at-preserved
-loop-at-preserved c =
-    let s = c.args.s.now in
-    let e = given s c.loop-at.at c.parse.result c.parse.ensures c.unwrap-segment.ensures in
-    elim c.if-is_end.branch [
-      | then-is_end w ↦
-          rw (w.out-is, w.card-is, w.k-is)
-          (line-put s c.loop-at.invariant c.loop-at-test.true e c.is_end.ensures w.if-is_end.true
-          c.requires.s_in_bounds w.put_line.ensures)
-      | else-is_end w ↦
-          rw (w.out-is, w.card-is, w.k-is)
-          (goes_on s c.loop-at.invariant c.loop-at-test.true e c.is_end.ensures w.if-is_end.false w.after-card.ensures)
-    ]
+pub loop-segment-preserved : goal.loop-segment-preserved
+loop-segment-preserved c =
+    goes_on c.args.sets.stream.now (here (goal.at.loop-segment-preserved c).In-Some) c.kind-kind.ensures (ap outcome (sym c.unwrap-body.ensures) ∙ (rw c.body-bytes.ensures at c.parse.ensures))
+    c.is_end.ensures c.if-is_end.false c.after-card.ensures
 
 pub returns : goal.returns
-returns c = writes-all c.args.s.now c.loop-at.invariant c.loop-at-test.false
+returns c = writes-all c.args.sets.stream.now c.loop-segment.invariant c.in-None.ensures.steps.0

@@ -1,10 +1,6 @@
 use Rattle.pgs_cards.proofs.FillLaws.{Writing}
-use Prim.Native.Nat.{◌-◌}
-use lib.ListN.{length}
+use Rattle.pgs_stream.specs.Segments.{segments_left}
 use Rattle.pgs_cards.proofs.cards.fill_lines.Given as goal
 
-abbrev pub invariant-loop-at : goal.invariant-loop-at
-invariant-loop-at l = Writing l.s l.initial.out l.out l.card l.at l.k
-
-abbrev pub decreases-loop-at : goal.decreases-loop-at
-decreases-loop-at l = length l.s - l.at
+abbrev pub invariant-loop-segment : goal.invariant-loop-segment
+invariant-loop-segment l = Writing l.s l.initial.out l.out l.card (segments_left l.segment-iterator) l.k

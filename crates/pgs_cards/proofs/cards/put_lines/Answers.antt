@@ -6,15 +6,15 @@ use native.Mathlib.Omega.{arith}
 use Rattle.pgs_cards.proofs.cards.put_lines.Goals as goal
 
 pub overflow_mul-need : goal.overflow_mul-need
-overflow_mul-need c = omega (arith, sets-room c.args.s.now c.requires.s_value, c.requires.n_value, c.well_formed.0.0)
+overflow_mul-need c = omega (arith, sets-room c.args.sets.stream.now c.args.sets.verdict, c.args.sets.counted)
 
 pub returns-then-out-need : goal.returns-then-out-need
-returns-then-out-need c = delivers-short refl (omega (arith, card-lines-length c.args.s.now, c.requires.n_value, c.if-out-need.true))
+returns-then-out-need c = delivers-short refl (omega (arith, card-lines-length c.args.sets.stream.now, c.args.sets.counted, c.if-out-need.true))
 
 pub fill_lines-requires : goal.fill_lines-requires
-fill_lines-requires c = record { s_value = c.requires.s_value; s_in_bounds = omega (arith, card-lines-length c.args.s.now, c.requires.n_value, c.if-out-need.false) }
+fill_lines-requires c = omega (arith, card-lines-length c.args.sets.stream.now, c.args.sets.counted, c.if-out-need.false)
 
 pub returns : goal.returns
 returns c =
-    delivers-all refl (omega (arith, card-lines-length c.args.s.now, c.requires.n_value, c.if-out-need.false))
-    (omega (arith, card-lines-length c.args.s.now, c.requires.n_value)) c.fill_lines.ensures
+    delivers-all refl (omega (arith, card-lines-length c.args.sets.stream.now, c.args.sets.counted, c.if-out-need.false))
+    (omega (arith, card-lines-length c.args.sets.stream.now, c.args.sets.counted)) c.fill_lines.ensures

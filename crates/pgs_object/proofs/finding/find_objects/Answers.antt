@@ -1,26 +1,47 @@
-use Rattle.pgs_base.proofs.Outcomes.{gave, turned_down, passed_on}
-use Rattle.pgs_reassembly.proofs.ObjectLaws.{set-objects, set-verdict, no-set}
-use Rattle.pgs_set.proofs.NumberLaws.{stands-open}
+use Rattle.pgs_base.proofs.Outcomes.{gave, turned_down, passed_verdict}
+use Rattle.pgs_reassembly.proofs.ObjectLaws.{set-found, no-set, found-refusal, unlisted, no_room, with-room}
+use Rattle.pgs_reassembly.specs.Objects.{objects_of, objects_verdict}
+use Rattle.pgs_set.proofs.NumberLaws.{stands-begins}
 use Rattle.pgs_set.specs.Sets.{set_number, set_verdict, set_record}
-use Rattle.std.proofs.lemmas.Grind.{merely}
+use mathlib.Core.Path.{refl, ap}
+use native.Mathlib.Omega.{arith}
 use lib.ListN.{length}
-use mathlib.Core.Path.{refl}
 use Rattle.pgs_object.proofs.finding.find_objects.Goals as goal
 
-pub invariant_of-open : goal.invariant_of-open
-invariant_of-open c = record { in_set = merely (stands-open c.args.s.now c.args.set (c.in_ok-place.ensures.stands _ refl) c.header_at-header.ensures) }
+pub invariant_of-found : goal.invariant_of-found
+invariant_of-found c = record { begins = stands-begins c.args.s.now c.args.set (c.in_ok-place.ensures.stands _ refl) }
 
 pub returns-in_err-place : goal.returns-in_err-place
 returns-in_err-place c =
     let s = c.args.s.now in
     let k = c.args.set in
-    rw (passed_on c.from_residual.result _ c.from_residual.ensures.1)
-    (no-set (length c.args.table.now) k s (turned_down (set_verdict k s) (set_record (set_number k s)) (c.in_err-place.ensures.answered)))
+    rw (passed_verdict c.from_residual.result _ c.from_residual.ensures.1)
+    (unlisted (objects_verdict k s) (objects_of k s) c.args.room
+    (found-refusal {now = c.args.table.now} (no-set 64 k s (turned_down (set_verdict k s) (set_record (set_number k s)) c.in_err-place.ensures.answered))))
+
+pub returns-in_err-find_in_set : goal.returns-in_err-find_in_set
+returns-in_err-find_in_set c =
+    let s = c.args.s.now in
+    let k = c.args.set in
+    let a = gave (set_verdict k s) (set_record (set_number k s)) c.in_ok-place.ensures.answered in
+    rw (passed_verdict c.from_residual-in_err-find_in_set.result _ c.from_residual-in_err-find_in_set.ensures.1)
+    (unlisted (objects_verdict k s) (objects_of k s) c.args.room
+    (set-found s k (c.in_ok-place.ensures.stands _ refl) a c.«open».ensures.stream_value c.«open».ensures.from_value c.in_err-find_in_set.ensures))
+
+pub returns-then-room-chains : goal.returns-then-room-chains
+returns-then-room-chains c =
+    let s = c.args.s.now in
+    let k = c.args.set in
+    let a = gave (set_verdict k s) (set_record (set_number k s)) c.in_ok-place.ensures.answered in
+    no_room (objects_verdict k s) (objects_of k s) c.args.room
+    (set-found s k (c.in_ok-place.ensures.stands _ refl) a c.«open».ensures.stream_value c.«open».ensures.from_value c.in_ok-find_in_set.ensures)
+    (omega (arith, ap length c.chains.ensures, c.if-room-chains.true))
 
 pub returns : goal.returns
 returns c =
     let s = c.args.s.now in
     let k = c.args.set in
-    let stands = c.in_ok-place.ensures.stands _ refl in
-    let a = gave (set_verdict k s) (set_record (set_number k s)) (c.in_ok-place.ensures.answered) in
-    rw (set-verdict s k stands c.header_at-header.ensures (length c.args.table.now) a, set-objects s k stands c.header_at-header.ensures) c.find_in_set.ensures
+    let a = gave (set_verdict k s) (set_record (set_number k s)) c.in_ok-place.ensures.answered in
+    with-room (objects_verdict k s) (objects_of k s) c.args.room
+    (set-found s k (c.in_ok-place.ensures.stands _ refl) a c.«open».ensures.stream_value c.«open».ensures.from_value c.in_ok-find_in_set.ensures)
+    (omega (arith, ap length c.chains.ensures, c.if-room-chains.false))

@@ -1,10 +1,11 @@
-use Rattle.pgs_reassembly.proofs.JoinLaws.{placing, places-none, places-within, places-part, places-on, placed-all}
+use Rattle.pgs_reassembly.proofs.JoinLaws.{placing, places-none, places-within, places-part, places-on, placed-all, its}
+use Rattle.std.proofs.lemmas.Grind.{merely}
 use native.Mathlib.Omega.{arith}
 use Rattle.pgs_object.proofs.joining.join_objects.Goals.{then-row, else-row}
 use Rattle.pgs_object.proofs.joining.join_objects.Goals as goal
 
 pub loop-row-init : goal.loop-row-init
-loop-row-init c = placing c.args.s.now c.args.rows.now c.args.scratch.now c.requires.measured
+loop-row-init c = placing c.args.s.now c.args.rows.now c.args.scratch.now c.requires.joinable
 
 pub overflow_add-end : goal.overflow_add-end
 overflow_add-end c =
@@ -15,6 +16,10 @@ overflow_add-end c =
       places-within c.args.s.now c.args.rows.now c.loop-row.invariant c.loop-row-test.true c.if-row.true
           c.requires.rows_in_bounds,
     )
+
+pub invariant_of-open : goal.invariant_of-open
+invariant_of-open c =
+    record { in_set = merely (its c.args.s.now c.args.rows.now c.loop-row.invariant c.loop-row-test.true).0.in_set }
 
 pub slice_bounds-join_chain-end : goal.slice_bounds-join_chain-end
 slice_bounds-join_chain-end c = omega (arith, places-within c.args.s.now c.args.rows.now c.loop-row.invariant c.loop-row-test.true c.if-row.true c.requires.rows_in_bounds)

@@ -5,11 +5,11 @@ use Rattle.pgs_ods.specs.OdsBody.{head_size}
 use mathlib.Core.Path.{ap, ◌∙◌}
 use Rattle.pgs_ods.proofs.ods.check_ods.Goals as goal
 
-pub returns-then-body-lt7 : goal.returns-then-body-lt7
-returns-then-body-lt7 c = short-numbers c.args.body.now c.if-body-lt7.true
+pub returns-then-body-lt-SIZE : goal.returns-then-body-lt-SIZE
+returns-then-body-lt-SIZE c = short-numbers c.args.body.now c.if-body-lt-SIZE.true
 
 pub returns-then-body-start : goal.returns-then-body-start
-returns-then-body-start c = short-dimensions c.args.body.now c.if-body-lt7.false (c.head_size-start.ensures ∙ ap head_size c.u8_at.ensures) c.if-body-start.true
+returns-then-body-start c = short-dimensions c.args.body.now c.if-body-lt-SIZE.false (c.head_size-start.ensures ∙ ap head_size c.u8_at.ensures) c.if-body-start.true
 
 pub returns : goal.returns
-returns c = whole-head c.args.body.now c.if-body-lt7.false (c.head_size-start.ensures ∙ ap head_size c.u8_at.ensures) c.if-body-start.false
+returns c = whole-head c.args.body.now c.if-body-lt-SIZE.false (c.head_size-start.ensures ∙ ap head_size c.u8_at.ensures) c.if-body-start.false

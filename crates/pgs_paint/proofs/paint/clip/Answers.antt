@@ -7,4 +7,4 @@ pub returns-clause-by_index : goal.returns-clause-by_index
 returns-clause-by_index c =
     let args = c.args in
     λ indices.
-    clipped-exactly args.placement (image_of args.image.width args.image.height indices) c.part_of-part.result _ _ _ _ c.visible.ensures c.visible-2.ensures c.part_of-part.ensures
+    clipped-exactly args.placement (image_of args.object.width args.object.height indices) c.part_of-part.result _ _ _ _ c.visible.ensures c.visible-2.ensures c.part_of-part.ensures

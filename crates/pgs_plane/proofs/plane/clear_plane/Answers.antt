@@ -9,4 +9,4 @@ returns c =
     let args = c.args in
     let size = args.size in
     changes (le-leb _ _ (omega arith))
-    (cleared-end size.width size.height c.bytes-need.result args.plane.now c.bytes-need.ensures c.if-plane-need.false (c.fill.ensures.after (λ y e. e)))
+    (cleared-end size.width size.height c.plane_bytes-need.result args.plane.now c.plane_bytes-need.ensures c.if-plane-need.false (c.fill.ensures.after (λ y e. e)))

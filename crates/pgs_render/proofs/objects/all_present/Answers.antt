@@ -1,15 +1,13 @@
-use mathlib.Core.Path.{refl}
-use Rattle.pgs_rendering.proofs.RowLaws.{presenting, presents-on, presents-not, presents-all}
+use Rattle.std.proofs.Common.{rules, tests, refl}
+use Rattle.std.proofs.lemmas.Iterator.Consumers.{YieldsList-from_first}
+use Rattle.std.proofs.lemmas.Iterator.Search.{all_from_yields_List}
+use Rattle.pgs_pcs.specs.Placements.{placements_left}
+use Rattle.pgs_pcs.specs.declared.pcs.CompositionObject.{CompositionObject}
+use Rattle.pgs_rendering.specs.Records.{has_record}
 use Rattle.pgs_render.proofs.objects.all_present.Goals as goal
 
-pub loop-placement-init : goal.loop-placement-init
-loop-placement-init c = presenting c.args.rows.now c.args.placements.now
-
-pub loop-placement-preserved : goal.loop-placement-preserved
-loop-placement-preserved c = presents-on c.args.rows.now c.args.placements.now c.loop-placement.invariant c.loop-placement-test.true refl c.has_object.ensures c.if-not-has_object.false
-
-pub returns-then-not-has_object : goal.returns-then-not-has_object
-returns-then-not-has_object c = presents-not c.args.rows.now c.args.placements.now c.loop-placement.invariant c.loop-placement-test.true refl c.has_object.ensures c.if-not-has_object.true
-
 pub returns : goal.returns
-returns c = presents-all c.args.rows.now c.args.placements.now c.loop-placement.invariant c.loop-placement-test.false
+returns c =
+    all_from_yields_List (λ (p : CompositionObject). has_record c.args.records.now p.object_id) c.all.new.self _ c.all.result c.all.ensures.ran
+    (YieldsList-from_first (λ x. x) placements_left {s = c.args.placements} (placements_left c.args.placements) refl)
+    (λ x b q k. search (rules, tests))

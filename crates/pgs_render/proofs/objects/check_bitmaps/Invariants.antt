@@ -1,5 +1,5 @@
-use Rattle.pgs_rendering.proofs.RowLaws.{Reading}
+use Rattle.pgs_rendering.proofs.RecordLaws.{Reading}
 use Rattle.pgs_render.proofs.objects.check_bitmaps.Given as goal
 
-abbrev pub invariant-loop-row : goal.invariant-loop-row
-invariant-loop-row l = Reading l.s l.scratch l.rows l.row-index
+abbrev pub invariant-loop-record : goal.invariant-loop-record
+invariant-loop-record l = Reading l.s l.scratch l.records l.record-index

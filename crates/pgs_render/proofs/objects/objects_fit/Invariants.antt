@@ -1,5 +1,5 @@
-use Rattle.pgs_rendering.proofs.RowLaws.{Fitting}
+use Rattle.pgs_rendering.proofs.RecordLaws.{Fitting}
 use Rattle.pgs_render.proofs.objects.objects_fit.Given as goal
 
-abbrev pub invariant-loop-row : goal.invariant-loop-row
-invariant-loop-row l = Fitting l.rows l.room l.row-index l.left
+abbrev pub invariant-loop-record : goal.invariant-loop-record
+invariant-loop-record l = Fitting l.records l.room l.record-index l.left

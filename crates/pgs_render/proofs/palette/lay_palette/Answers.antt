@@ -7,13 +7,13 @@ use native.Mathlib.Omega.{arith}
 use Rattle.pgs_render.proofs.palette.lay_palette.Goals as goal
 
 pub slice_bounds-as_chunks-start : goal.slice_bounds-as_chunks-start
-slice_bounds-as_chunks-start c = has-numbers c.args.body.now c.requires.body_value
+slice_bounds-as_chunks-start c = has-numbers c.args.body.now c.requires
 
 pub bounds-body-0 : goal.bounds-body-0
-bounds-body-0 c = omega (arith, has-numbers c.args.body.now c.requires.body_value)
+bounds-body-0 c = omega (arith, has-numbers c.args.body.now c.requires)
 
 pub returns : goal.returns
 returns c =
     let body = c.args.body.now in
-    let two = has-numbers body c.requires.body_value in
-    chunks-laid body c.args.named c.requires.in_bounds (num-byte 0 body (omega arith)) (chunks-are body two c.as_chunks.ensures.front) c.apply.ensures
+    let two = has-numbers body c.requires in
+    chunks-laid body c.args.named (omega arith) (num-byte 0 body (omega arith)) (chunks-are body two c.as_chunks.ensures.front) c.apply.ensures

@@ -3,7 +3,7 @@
 use Prim.Native.Nat.{ℕ}
 use Rattle.pgs_base.proofs.Outcomes.{gave, gave-value, turned_down, gives_as, refuses-as, passed_on}
 use Rattle.pgs_base.specs.Outcome.{gives, outcome_of, accepted}
-use Rattle.pgs_segment.proofs.SegmentLaws.{has-header, head-decides, body-past-end, body-decides, lent-body}
+use Rattle.pgs_segment.proofs.SegmentLaws.{head-decides, body-past-end, body-decides, lent-body}
 use Rattle.pgs_segment.specs.Fields.{body_verdict, body_list}
 use Rattle.pgs_segment.specs.Header.{header_verdict, header_fields, size_of, kind_of}
 use Rattle.pgs_views.specs.Kinds.{type_of}
@@ -25,14 +25,11 @@ module _ (l : List ℕ) {h : SegmentHeader} (e : gives h ≡ outcome_of (header_
   kind-is : h.segment_type ≡ kind_of l
   kind-is = ap (λ (x : SegmentHeader). x.segment_type) (gave-value (header_verdict l) (header_fields l) e)
 
-pub overflow_sub-buf : goal.overflow_sub-buf
-overflow_sub-buf c = has-header c.args.buf.now (ok c.args.buf.now (c.in_ok-header.ensures))
-
-pub returns-then-buf-size : goal.returns-then-buf-size
-returns-then-buf-size c = let l = c.args.buf.now in let e = (c.in_ok-header.ensures) in refuses-as (frame_of l) (body-past-end l (ok l e) (rw (← size_is l e) c.if-buf-size.true))
-
-pub slice_bounds-check_body-end : goal.slice_bounds-check_body-end
-slice_bounds-check_body-end c = let l = c.args.buf.now in omega (arith, has-header l (ok l (c.in_ok-header.ensures)), c.if-buf-size.false)
+pub returns-then-buf-used : goal.returns-then-buf-used
+returns-then-buf-used c =
+    let l = c.args.buf.now in
+    let e = c.in_ok-header.ensures in
+    refuses-as (frame_of l) (body-past-end l (ok l e) (omega (arith, size_is l e)))
 
 pub returns-in_err-header : goal.returns-in_err-header
 returns-in_err-header c =
@@ -47,17 +44,17 @@ returns-in_err-list c =
     let e = (c.in_ok-header.ensures) in
     passed_on c.from_residual-in_err-list.result _ c.from_residual-in_err-list.ensures.1
     ∙ refuses-as (frame_of l)
-    (body-decides l (ok l e) (rw (← size_is l e) c.if-buf-size.false)
+    (body-decides l (ok l e) (omega (arith, size_is l e))
     ∙ turned_down (body_verdict (segment_type l) (body_at l)) (body_list (segment_type l) (body_at l))
-    (lent-body l (c.from-kind.ensures ∙ ap type_of (kind-is l e)) (size_is l e) (c.in_err-list.ensures)))
+    (lent-body l (c.kind-kind.ensures ∙ ap type_of (kind-is l e)) (size_is l e) (rw c.used-used.ensures at c.in_err-list.ensures)))
 
 pub returns : goal.returns
 returns c =
     let l = c.args.buf.now in
     let e = (c.in_ok-header.ensures) in
-    let q = lent-body l (c.from-kind.ensures ∙ ap type_of (kind-is l e)) (size_is l e) (c.in_ok-list.ensures) in
+    let q = lent-body l (c.kind-kind.ensures ∙ ap type_of (kind-is l e)) (size_is l e) (rw c.used-used.ensures at c.in_ok-list.ensures) in
     gives_as
-    (body-decides l (ok l e) (rw (← size_is l e) c.if-buf-size.false)
+    (body-decides l (ok l e) (omega (arith, size_is l e))
     ∙ gave (body_verdict (segment_type l) (body_at l)) (body_list (segment_type l) (body_at l)) q)
     (λ j. record {
       header = gave-value (header_verdict l) (header_fields l) e j;

@@ -1,29 +1,34 @@
-use Rattle.pgs_base.proofs.Outcomes.{gave, gave-value, turned_down, passed_on}
-use Rattle.std.proofs.lemmas.Grind.{merely}
-use Rattle.pgs_set.proofs.NumberLaws.{stands-open, finds-set, finds-no-sets, finds_past}
-use Rattle.pgs_set.specs.Sets.{sets_verdict, set_count}
+use Rattle.std.proofs.lemmas.Iterator.Consumers.{nth_from_yields_List, YieldsList-from_first}
+use Rattle.std.specs.List.{slice_get}
+use Rattle.std.specs.Option.{option_map}
+use Rattle.pgs_set.proofs.NumberLaws.{finds_past, finds-set, number-found}
+use Rattle.pgs_set.specs.Records.{records_left, set_records}
+use Prim.Native.Nat.{◌<◌}
+use mathlib.Core.Path.{◌≡◌, refl}
 use native.Mathlib.Omega.{arith}
+use Rattle.pgs_set.specs.Sets.{set_count}
+use Rattle.pgs_set.proofs.set.find_set.Goals.{After-nth}
 use Rattle.pgs_set.proofs.set.find_set.Goals as goal
 
-pub returns-then-n-k : goal.returns-then-n-k
-returns-then-n-k c =
-    let s = c.args.s.now in
-    let e = c.in_ok-n.ensures in
-    let all = gave-value (sets_verdict s) (set_count s) e in
-    finds_past s c.args.k (gave (sets_verdict s) (set_count s) e) (omega (arith, all, c.if-n-k.true))
+-- what `nth` gives is the record of this number
+its : (c : After-nth) → option_map (λ x. x) c.nth.result ≡ slice_get (set_records c.in_ok-sets.sets.stream.now) c.args.k
+its c =
+    nth_from_yields_List c.nth.result c.nth.new.self c.args.k c.nth.ensures.ran
+    (YieldsList-from_first (λ x. x) records_left (set_records c.in_ok-sets.sets.stream.now) c.records.ensures)
 
-pub invariant_of-open : goal.invariant_of-open
-invariant_of-open c = record { in_set = merely (stands-open c.args.s.now c.args.k c.set_place-place.ensures c.header_at-header.ensures) }
+pub returns-then-sets-k : goal.returns-then-sets-k
+returns-then-sets-k c =
+    let d = c.in_ok-sets.sets in
+    rw (← c.in_ok-sets.ensures) (finds_past d.stream.now c.args.k d.verdict (omega (arith, d.counted, c.if-sets-k.true)))
 
-pub returns-in_err-n : goal.returns-in_err-n
-returns-in_err-n c =
-    let s = c.args.s.now in
-    rw (passed_on c.from_residual.result _ c.from_residual.ensures.1) (finds-no-sets s c.args.k (turned_down (sets_verdict s) (set_count s) (c.in_err-n.ensures)))
+pub unwrap-requires : goal.unwrap-requires
+unwrap-requires c =
+    let d = c.in_ok-sets.sets in
+    let m : c.args.k < set_count d.stream.now = omega (arith, d.counted, c.if-sets-k.false) in
+    rw (number-found d.stream.now c.args.k d.verdict m (its (goal.at.unwrap-requires c).After-nth)) refl
 
 pub returns : goal.returns
 returns c =
-    let s = c.args.s.now in
-    let e = c.in_ok-n.ensures in
-    let all = gave-value (sets_verdict s) (set_count s) e in
-    finds-set s c.args.k c.set_place-place.ensures c.header_at-header.ensures (gave (sets_verdict s) (set_count s) e)
-    (omega (arith, all, c.if-n-k.false)) c.end.ensures
+    let d = c.in_ok-sets.sets in
+    let m : c.args.k < set_count d.stream.now = omega (arith, d.counted, c.if-sets-k.false) in
+    rw (← c.in_ok-sets.ensures) (finds-set d.stream.now c.args.k d.verdict m (its (goal.at.returns c).After-nth) c.unwrap.ensures)

@@ -1,7 +1,11 @@
--- `fill_segments` stores a record for each segment: the loop keeps `Storing`.
+-- `fill_segments` stores a record for each segment: the records stored and those of the segments left are all of them.
 -- Assumes nothing.
-use Rattle.pgs_stream.proofs.StreamLaws.{Storing}
+use Rattle.std.specs.Prelude.{map}
+use Rattle.pgs_base.proofs.Front.{Front}
+use Rattle.pgs_stream.specs.Segments.{placed_record, segments_left}
 use Rattle.pgs_stream.proofs.stream.fill_segments.Given as goal
 
 abbrev pub invariant-loop-record : goal.invariant-loop-record
-invariant-loop-record g l = Storing g.R.FromHeader.from_header l.s l.n l.initial.record-items l.record-items l.record-index l.at
+invariant-loop-record g l =
+    let records = map (placed_record g.R.FromHeader.from_header) in
+    Front l.initial.record-items (records (segments_left l.initial.segments)) l.record-items (records (segments_left l.segments)) l.record-index

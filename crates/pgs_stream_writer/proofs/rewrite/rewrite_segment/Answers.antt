@@ -29,14 +29,17 @@ size_small : (l : List ℕ) (n : ℕ) → n < 65536 → length (take (13 + n - 1
 size_small l n h = omega (arith, length-take (13 + n - 13) (drop 13 l))
 
 pub slice_bounds-rewrite_body-end : goal.slice_bounds-rewrite_body-end
-slice_bounds-rewrite_body-end c = let l = c.args.l.now in omega (arith, head-size l (c.in_ok-head.ensures), accepted-size l c.requires)
+slice_bounds-rewrite_body-end c =
+    let l = c.args.l.now in
+    omega (arith, c.used.ensures, head-size l (c.in_ok-head.ensures), accepted-size l c.requires)
 
 pub rewrite_body-requires : goal.rewrite_body-requires
 rewrite_body-requires c =
     let l = c.args.l.now in
     let e = (c.in_ok-head.ensures) in
     let f : Fits w16 c.in_ok-head.head.segment_size = search rules in
-    record { body_value = lent-verdict l (c.from-kind.ensures ∙ head-kind l e) (head-size l e) (accepted-body l c.requires); body_len_bound = size_small l c.in_ok-head.head.segment_size f.fits }
+    rw c.used.ensures
+    (record { body_value = lent-verdict l (c.kind-kind.ensures ∙ head-kind l e) (head-size l e) (accepted-body l c.requires); body_len_bound = size_small l c.in_ok-head.head.segment_size f.fits })
 
 pub returns-in_err-head : goal.returns-in_err-head
 returns-in_err-head c =
@@ -46,4 +49,5 @@ returns-in_err-head c =
 pub returns : goal.returns
 returns c =
     let l = c.args.l.now in
-    same_write (segment-again l (gave-value (header_verdict l) (header_fields l) (c.in_ok-head.ensures)) c.from-kind.ensures) c.rewrite_body.ensures
+    same_write (segment-again l (gave-value (header_verdict l) (header_fields l) (c.in_ok-head.ensures)) c.kind-kind.ensures)
+    (rw c.used.ensures at c.rewrite_body.ensures)

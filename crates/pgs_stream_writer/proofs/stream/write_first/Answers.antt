@@ -1,34 +1,55 @@
 -- `write_first` performs one write after another: the loop keeps `Performing`.
 -- Assumes nothing.
-use Prim.Native.Nat.{◌+◌}
-use Rattle.pgs_segment.specs.Header.{size_of}
-use Rattle.pgs_segment.specs.declared.header.SegmentHeader.{SegmentHeader}
-use Rattle.pgs_stream_writer.proofs.StreamWriteLaws.{next-lent, lent-write, put_back, bytes_written, writes_accepted, none-written, performs-on}
-use lib.ListN.{drop}
-use mathlib.Core.Path.{◌≡◌, ap}
+use Rattle.pgs_stream.specs.Segments.{segments_left}
+use Rattle.pgs_stream_writer.proofs.StreamWriteLaws.{
+  performing,
+  performed,
+  next-within,
+  next-lent,
+  performed-next,
+  bytes_written,
+  writes_accepted,
+  none-written,
+}
+use mathlib.Core.Path.{sym, ap, ◌∙◌}
 use native.Mathlib.Omega.{arith}
-use Rattle.pgs_stream_writer.proofs.stream.write_first.Goals.{in-Ok, in_default}
 use Rattle.pgs_stream_writer.proofs.stream.write_first.Goals as goal
 
-pub rewrite_segment-answer-requires : goal.rewrite_segment-answer-requires
-rewrite_segment-answer-requires c = next-lent c.args.s.now c.args.n c.args.out.now c.loop.invariant c.loop-test.true
+pub loop-segment-init : goal.loop-segment-init
+loop-segment-init c =
+    let is = c.into_iter-segment-iterator.ensures.into_iter_gives in
+    let made = c.take-segment-items.ensures in
+    performing c.args.s.now c.args.n c.args.out.now c.requires
+    (ap (λ t. t.n) is ∙ made.count)
+    (ap (λ t. segments_left t.iter) is ∙ ap segments_left made.source)
 
-pub loop-preserved : goal.loop-preserved
-loop-preserved c =
-    let s = c.args.s.now in
-    let answer = c.rewrite_segment-answer.result in
-    let size : c.header_at.result.segment_size ≡ size_of (drop c.loop.from s)
-    = ap (λ (h : SegmentHeader). h.segment_size) c.header_at.ensures in
-    let moved : c.match-answer.at ≡ c.loop.at + bytes_written answer
-    = elim c.match-answer.branch [
-      | in-Ok w ↦ omega (arith, w.at-is, ap bytes_written w.in-Ok.is)
-      | in_default w ↦ omega (arith, w.at-is, (none-written answer w.in_default.not-Ok).0)
-    ] in
-    let counted : c.match-answer.accepted ≡ c.loop.accepted + writes_accepted answer
-    = elim c.match-answer.branch [
-      | in-Ok w ↦ omega (arith, w.accepted-is, ap writes_accepted w.in-Ok.is)
-      | in_default w ↦ omega (arith, w.accepted-is, (none-written answer w.in_default.not-Ok).1)
-    ] in
-    rw (put_back c.loop.out c.rewrite_segment-answer.new.out c.loop.at, size, moved, counted)
-    (performs-on s c.args.n c.args.out.now c.loop.invariant c.loop-test.true answer
-    (lent-write s c.loop.out c.loop.from c.loop.at c.rewrite_segment-answer.ensures))
+pub slice_bounds-rewrite_segment-count : goal.slice_bounds-rewrite_segment-count
+slice_bounds-rewrite_segment-count c =
+    next-within c.args.s.now c.args.n c.args.out.now c.loop-segment.invariant c.in-Some.ensures.steps.0
+
+pub slice_bounds-rewrite_segment-start : goal.slice_bounds-rewrite_segment-start
+slice_bounds-rewrite_segment-start c =
+    next-within c.args.s.now c.args.n c.args.out.now c.loop-segment.invariant c.in-Some.ensures.steps.0
+
+pub rewrite_segment-requires : goal.rewrite_segment-requires
+rewrite_segment-requires c = next-lent c.args.s.now c.args.n c.args.out.now c.loop-segment.invariant c.in-Some.ensures.steps.0
+
+pub loop-segment-preserved : goal.loop-segment-preserved
+loop-segment-preserved c =
+    let answer = c.rewrite_segment.result in
+    let none = none-written answer c.in_default.not-Ok in
+    performed-next c.args.s.now c.args.n c.args.out.now c.loop-segment.invariant c.in-Some.ensures.steps.0 answer
+    c.in-Some.ensures.steps.1 c.rewrite_segment.ensures (omega (arith, none.0)) (omega (arith, none.1))
+
+pub loop-segment-preserved-in-Ok : goal.loop-segment-preserved-in-Ok
+loop-segment-preserved-in-Ok c =
+    let answer = c.rewrite_segment.result in
+    performed-next c.args.s.now c.args.n c.args.out.now c.loop-segment.invariant c.in-Some.ensures.steps.0 answer
+    c.in-Some.ensures.steps.1 c.rewrite_segment.ensures
+    (omega (arith, ap bytes_written c.in-Ok.is))
+    (omega (arith, ap writes_accepted c.in-Ok.is))
+
+pub returns : goal.returns
+returns c =
+    let w = performed c.args.s.now c.args.n c.args.out.now c.loop-segment.invariant (λ h. (c.in-None.ensures.steps h).0) in
+    record { result_value = sym w.0; out_after = w.1 }

@@ -1,7 +1,8 @@
--- `check_wds` tests that the count and the windows are there.
+-- `check_wds` tests the windows as every list behind its count.
 -- Assumes nothing.
-use Rattle.pgs_wds.proofs.WdsLaws.{windows-walked}
+use mathlib.Core.Path.{◌∙◌}
+use Rattle.pgs_wds.proofs.WdsLaws.{windows-listed}
 use Rattle.pgs_wds.proofs.wds.check_wds.Goals as goal
 
 pub returns : goal.returns
-returns c = windows-walked c.args.body.now c.if-body-lt1.false c.u8_at-count.ensures c.in_ok-len.ensures
+returns c = c.check_counted.ensures ∙ windows-listed c.args.body.now

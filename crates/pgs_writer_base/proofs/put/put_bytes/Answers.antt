@@ -1,12 +1,15 @@
--- `put_bytes` stores the bytes one after another.
-use Rattle.std.proofs.Common.{ℕ, List, ◌+◌, sym, subst}
-use Rattle.pgs_writer_base.proofs.PutLaws.{Copying, sets-out, copies-on}
+-- `put_bytes` stores the bytes that have room, or none.
+-- Assumes nothing.
+use Rattle.std.proofs.Common.{◌≡◌, ◌+◌, ◌-◌, arith}
+use Rattle.pgs_writer_base.proofs.PutLaws.{sets-out, sets-trim}
 use Rattle.pgs_writer_base.proofs.put.put_bytes.Goals as goal
 
-pub returns-then-out-at : goal.returns-then-out-at
-returns-then-out-at c = sets-out c.args.out.now c.args.at c.args.bytes.now c.if-out-at.true
+pub returns-then-at-out : goal.returns-then-at-out
+returns-then-at-out c =
+    let n = c.min-n.result in
+    let size : c.args.at + n - c.args.at ≡ n = omega arith in
+    rw (c.copy_from_slice.ensures.after, size)
+    (sets-trim c.args.out.now c.args.at c.args.bytes.now (omega arith) c.min-n.ensures)
 
-pub loop-i-preserved : goal.loop-i-preserved
-loop-i-preserved c =
-    subst (λ (l : List ℕ). Copying c.args.out.now c.args.at c.args.bytes.now l (c.loop-i.i + 1)) (sym c.put_byte.ensures)
-    (copies-on c.args.out.now c.args.at c.args.bytes.now c.loop-i.invariant c.loop-i-test.true)
+pub returns-else-at-out : goal.returns-else-at-out
+returns-else-at-out c = sets-out c.args.out.now c.args.at c.args.bytes.now c.if-at-out.false

@@ -14,10 +14,12 @@ store_literal-requires c =
     let low = c.short_count-count.ensures in
     let filled = c.fill_short in
     let next = c.further.ensures in
-    rw next (
-      omega arith,
-      omega (arith, low, filled.auto.pixels),
-      storing-escape c.requires.5 (omega arith) c.requires.1
-          (run-short-color (get_or l (at + 1) 0) _ (get_or l (at + 2) 0 ∷ get_or l (at + 3) 0 ∷ []) low (omega arith) c.requires.2 c.requires.3)
-          filled.auto.pixels filled.ensures,
-    )
+    let code = c.requires.code in
+    rw next (record {
+      there = omega arith;
+      room = omega (arith, low, filled.auto.pixels);
+      storing =
+          storing-escape c.requires.storing (omega arith) code.zero
+          (run-short-color (get_or l (at + 1) 0) _ (get_or l (at + 2) 0 ∷ get_or l (at + 3) 0 ∷ []) low (omega (arith, code.from_low)) code.from_low code.to_high)
+          filled.auto.pixels filled.ensures;
+    })

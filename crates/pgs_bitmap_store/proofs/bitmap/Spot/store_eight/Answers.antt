@@ -30,32 +30,11 @@ module _ (l : List ℕ) (spot : Spot) where
         (storing-pixel s.1 (omega arith) (nonzero n more) (omega arith)),
   )
 
-pub bounds-pixels-self-2 : goal.bounds-pixels-self-2
-bounds-pixels-self-2 c = simp length-set (omega arith)
-
-pub bounds-pixels-self-3 : goal.bounds-pixels-self-3
-bounds-pixels-self-3 c = simp length-set (omega arith)
-
-pub bounds-pixels-self-4 : goal.bounds-pixels-self-4
-bounds-pixels-self-4 c = simp length-set (omega arith)
-
-pub bounds-pixels-self-5 : goal.bounds-pixels-self-5
-bounds-pixels-self-5 c = simp length-set (omega arith)
-
-pub bounds-pixels-self-6 : goal.bounds-pixels-self-6
-bounds-pixels-self-6 c = simp length-set (omega arith)
-
-pub bounds-pixels-self-7 : goal.bounds-pixels-self-7
-bounds-pixels-self-7 c = simp length-set (omega arith)
-
-pub bounds-pixels-self-8 : goal.bounds-pixels-self-8
-bounds-pixels-self-8 c = simp length-set (omega arith)
-
 pub returns : goal.returns
 returns c =
     let spot = c.further.ensures in
-    let next = next-pixel c.args.«data».now c.args.self c.requires.0 c.requires.2 in
-    let first = first-pixel c.args.«data».now c.args.self c.requires.0 c.requires.2 c.requires.1 c.requires.3 in
+    let next = next-pixel c.args.«data».now c.args.self c.requires.there c.requires.literals in
+    let first = first-pixel c.args.«data».now c.args.self c.requires.there c.requires.literals c.requires.room c.requires.storing in
     rw spot (
       omega arith,
       (next 7 _ (omega arith) (next 6 _ (omega arith) (next 5 _ (omega arith) (next 4 _ (omega arith) (next 3 _ (omega arith) (next 2 _ (omega arith) (next 1 _ (omega arith) first))))))).1,

@@ -16,13 +16,14 @@ store_stroke-requires c =
     let low = c.short_count.ensures in
     let block = c.fill_exactly in
     let next = c.further.ensures in
-    rw next (
-      omega arith,
-      omega (arith, low, block.auto.pixels),
-      storing-escape c.requires.3 (omega arith) c.requires.1
+    rw next (record {
+      there = omega arith;
+      room = omega (arith, low, block.auto.pixels);
+      storing =
+          storing-escape c.requires.storing (omega arith) c.requires.code
           (run-short-zero (get_or l (at + 1) 0) _ (get_or l (at + 2) 0 ∷ get_or l (at + 3) 0 ∷ []) low c.if-second-lt64.true)
-          block.auto.pixels (block-fills 64 (omega (arith, low)) (omega arith) block.ensures),
-    )
+          block.auto.pixels (block-fills 64 (omega (arith, low)) (omega arith) block.ensures);
+    })
 
 pub returns : goal.returns
 returns c =
@@ -30,8 +31,8 @@ returns c =
     let at = c.args.self.at in
     let filled = c.fill_run in (
       omega arith,
-      storing-escape c.requires.3 (omega arith) c.requires.1
+      storing-escape c.requires.storing (omega arith) c.requires.code
           (ap (λ (n : ℕ). found (run n (get_or l (at + 3) 0)) 4) c.long_count-count.ensures.0
           ∙ run-long-color (get_or l (at + 1) 0) _ (get_or l (at + 2) 0 ∷ get_or l (at + 3) 0 ∷ []) refl c.if-second-lt64.false c.if-second-lt128.false c.if-second-lt192.false)
-          filled.auto.pixels filled.ensures,
+          filled.auto.pixels filled.ensures.filled,
     )

@@ -18,16 +18,19 @@ pub store_literal-requires : goal.store_literal-requires
 store_literal-requires c =
     let block = c.fill_exactly in
     let next = c.further.ensures in
-    rw next (
-      omega arith,
-      omega (arith, c.if-count-le128.true, block.auto.pixels),
-      storing-escape c.requires.5 (omega arith) c.requires.1 (the-run _ _ _ c.long_count-count.ensures.0 c.requires.2 c.requires.3) block.auto.pixels
-          (block-fills 128 c.if-count-le128.true (omega arith) block.ensures),
-    )
+    let code = c.requires.code in
+    rw next (record {
+      there = omega arith;
+      room = omega (arith, c.if-count-le128.true, block.auto.pixels);
+      storing =
+          storing-escape c.requires.storing (omega arith) code.zero (the-run _ _ _ c.long_count-count.ensures.0 code.from_low code.to_high) block.auto.pixels
+          (block-fills 128 c.if-count-le128.true (omega arith) block.ensures);
+    })
 
 pub returns : goal.returns
 returns c =
-    let filled = c.fill_run in (
+    let filled = c.fill_run in
+    let code = c.requires.code in (
       omega arith,
-      storing-escape c.requires.5 (omega arith) c.requires.1 (the-run _ _ _ c.long_count-count.ensures.0 c.requires.2 c.requires.3) filled.auto.pixels filled.ensures,
+      storing-escape c.requires.storing (omega arith) code.zero (the-run _ _ _ c.long_count-count.ensures.0 code.from_low code.to_high) filled.auto.pixels filled.ensures.filled,
     )

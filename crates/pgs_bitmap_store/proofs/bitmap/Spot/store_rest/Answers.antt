@@ -1,24 +1,37 @@
 -- `store_rest` meets its contract. The loop's invariant: the pixels of the codes before this spot are stored. The measure is what is
 -- left of the data. Assumes nothing.
-use mathlib.Core.Path.{◌∙◌, sym}
+use mathlib.Core.Path.{◌≡◌, ◌∙◌, sym}
+use Rattle.std.specs.Prelude.{None}
 use Rattle.pgs_run_length.proofs.Answered.{answered-code, answered-none}
-use Rattle.pgs_bitmap_store.proofs.BitmapStores.{storing-run, storing-line, storing-truncated, storing-end}
+use Rattle.pgs_bitmap_store.proofs.BitmapStores.{storing-run, storing-line, storing-truncated, storing-end, behind-later}
 use Rattle.pgs_bitmap_store.proofs.bitmap.Spot.store_rest.Goals as goal
 
-pub loop-run-preserved-in-Ok-Some-Run : goal.loop-run-preserved-in-Ok-Some-Run
-loop-run-preserved-in-Ok-Some-Run c =
-    let code = c.in-Ok-Some-Run in (
-      c.fill_run.auto.pixels ∙ c.loop-run.invariant.0,
-      storing-run c.loop-run.invariant.1 (answered-code code.ensures code.field-0-is code.field-0-0-is) c.fill_run.auto.pixels c.fill_run.ensures,
+pub loop-code-preserved-in-Run : goal.loop-code-preserved-in-Run
+loop-code-preserved-in-Run c =
+    let code = c.in-Ok-Some in (
+      c.fill_run.auto.pixels ∙ c.loop-code.invariant.0,
+      storing-run c.loop-code.invariant.1 (answered-code code.ensures code.field-0-is c.in-Run.is) c.fill_run.auto.pixels c.fill_run.ensures.filled,
+      behind-later _ _ _ c.fill_run.ensures.filled.order c.loop-code.invariant.2 c.fill_run.ensures.behind,
     )
 
-pub loop-run-preserved : goal.loop-run-preserved
-loop-run-preserved c =
-    let code = c.in-Ok-Some-LineEnd in
-    (c.loop-run.invariant.0, storing-line c.loop-run.invariant.1 (answered-code code.ensures code.field-0-is code.field-0-0-is))
+pub loop-code-preserved : goal.loop-code-preserved
+loop-code-preserved c =
+    let code = c.in-Ok-Some in
+    (c.loop-code.invariant.0, storing-line c.loop-code.invariant.1 (answered-code code.ensures code.field-0-is c.in-LineEnd.is), c.loop-code.invariant.2)
 
-pub returns-in-Ok-None : goal.returns-in-Ok-None
-returns-in-Ok-None c = storing-end c.loop-run.invariant.1 (answered-none c.in-Ok-None.ensures c.in-Ok-None.field-0-is)
+-- no code is left
+pub returns-in_default : goal.returns-in_default
+returns-in_default c =
+    let no-code : c.in_default.field-0 ≡ None = cc in
+    record {
+      stored = storing-end c.loop-code.invariant.1 (answered-none (rw c.in_default.is at c.next_code.ensures) no-code);
+      behind = c.loop-code.invariant.2;
+    }
 
-pub returns-in-Err : goal.returns-in-Err
-returns-in-Err c = storing-truncated c.loop-run.invariant.1 (sym c.in-Err.ensures)
+-- or the one there has bytes missing
+pub returns-in_default-2 : goal.returns-in_default-2
+returns-in_default-2 c =
+    record {
+      stored = storing-truncated c.loop-code.invariant.1 (sym (rw c.in_default.is at c.next_code.ensures));
+      behind = c.loop-code.invariant.2;
+    }

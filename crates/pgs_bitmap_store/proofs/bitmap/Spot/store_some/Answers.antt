@@ -6,9 +6,14 @@ use Rattle.pgs_run_length.proofs.LiteralBytes.{literals-said}
 use Rattle.pgs_bitmap_store.proofs.bitmap.Spot.store_some.Goals as goal
 
 pub store_eight-requires : goal.store_eight-requires
-store_eight-requires c = (c.requires.0, omega arith, literals-said c.args.«data».now c.args.self.at 8 (sym c.eight_literals.ensures ∙ c.if-eight_literals.true), c.requires.2)
+store_eight-requires c = record {
+  there = c.requires.there;
+  literals = literals-said c.args.«data».now c.args.self.at 8 (sym c.eight_literals.ensures ∙ c.if-eight_literals.true);
+  room = omega arith;
+  storing = c.requires.storing;
+}
 
 pub returns : goal.returns
 returns c =
     let next = c.further.ensures in
-    rw next (omega arith, storing-pixel c.requires.2 (omega arith) c.if-b-eq0.false (omega arith))
+    rw next (omega arith, storing-pixel c.requires.storing (omega arith) c.if-b-eq0.false (omega arith))

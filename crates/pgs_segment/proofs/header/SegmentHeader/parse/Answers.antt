@@ -13,4 +13,4 @@ pub returns-then-buf-ne71 : goal.returns-then-buf-ne71
 returns-then-buf-ne71 c = no_second c.args.buf.now c.if-buf-lt-SIZE.false c.if-buf-ne80.false c.if-buf-ne71.true
 
 pub returns : goal.returns
-returns c = header_read c.args.buf.now c.if-buf-lt-SIZE.false c.if-buf-ne80.false c.if-buf-ne71.false c.u32_at.ensures c.u32_at-2.ensures c.u8_at.ensures c.u16_at.ensures
+returns c = header_read c.args.buf.now c.if-buf-lt-SIZE.false c.if-buf-ne80.false c.if-buf-ne71.false c.fields.ensures

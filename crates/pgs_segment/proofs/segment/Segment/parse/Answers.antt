@@ -37,9 +37,9 @@ returns c =
     gives_as (ok l e)
     (λ j. record {
       header = (frame_is l e j).header;
-      body = lent-numbers l (c.from-kind.ensures ∙ ap type_of (kind-is l e)) (size_is l e) c.numbers-body.ensures j;
+      body = lent-numbers l (c.kind-kind.ensures ∙ ap type_of (kind-is l e)) (size_is l e) (rw c.used-used.ensures at c.numbers-body.ensures) j;
       list = (frame_is l e j).list;
-      used = 13 + size_is l e j;
+      used = (c.used-used.ensures ∙ ap (λ (k : ℕ). 13 + k) (size_is l e)) j;
     })
 
 pub returns-in_err-frame : goal.returns-in_err-frame

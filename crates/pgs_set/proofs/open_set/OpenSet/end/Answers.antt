@@ -1,19 +1,12 @@
 use Rattle.pgs_set.proofs.OpenLaws.{is-open}
-use Rattle.pgs_set.proofs.SetLaws.{read-within, passing, inside-here, passes-read, passed-read}
-use native.Mathlib.Omega.{arith}
+use Rattle.pgs_set.proofs.SegmentLaws.{behind, segments-end}
+use Rattle.pgs_set.specs.Segments.{set_segments}
+use mathlib.Core.Path.{◌≡◌, sym, ap, ◌∙◌}
 use Rattle.pgs_set.proofs.open_set.OpenSet.end.Goals as goal
 
-pub loop-s-init : goal.loop-s-init
-loop-s-init c = passing c.args.self.stream.now (is-open c.args.self.stream.now c.args.self.from c.args.self.in_set)
-
-pub overflow_add-at-in-loop-s : goal.overflow_add-at-in-loop-s
-overflow_add-at-in-loop-s c = omega (arith, read-within c.args.self.stream.now c.loop-s.at (inside-here c.args.self.stream.now c.loop-s.invariant.in_set) c.header_at-header.ensures)
-
-pub returns-then-is_end : goal.returns-then-is_end
-returns-then-is_end c = passed-read c.args.self.stream.now c.loop-s.invariant c.header_at-header.ensures c.from.ensures c.is_end.ensures c.if-is_end.true
-
-pub loop-s-smaller : goal.loop-s-smaller
-loop-s-smaller c = omega (arith, read-within c.args.self.stream.now c.loop-s.at (inside-here c.args.self.stream.now c.loop-s.invariant.in_set) c.header_at-header.ensures)
-
-pub loop-s-preserved : goal.loop-s-preserved
-loop-s-preserved c = passes-read c.args.self.stream.now c.loop-s.invariant c.header_at-header.ensures c.from.ensures c.is_end.ensures c.if-is_end.false
+pub returns : goal.returns
+returns c =
+    let o = c.args.self in
+    let all : c.loop-segment.at ≡ behind o.from (set_segments o.stream.now o.from)
+    = ap (behind c.loop-segment.at) (sym c.in-None.ensures.steps.0) ∙ c.loop-segment.invariant in
+    rw all (segments-end o.stream.now (is-open o.stream.now o.from o.in_set))

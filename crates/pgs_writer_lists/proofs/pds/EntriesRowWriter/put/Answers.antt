@@ -1,19 +1,18 @@
--- `put` stores the fields one after another.
+-- The cells of an entry are its fields, a byte each.
 -- Assumes nothing.
-use Rattle.pgs_writer_base.proofs.PutLaws.{wrote}
-use lib.ListN.{get_or}
-use mathlib.Core.List.{[], ◌∷◌}
-use mathlib.Core.Path.{refl}
+use Rattle.std.proofs.Common.{rules, ℕ, get_or, ap, ◌∙◌}
+use Rattle.pgs_writer_base.proofs.WriteKinds.{entry-bytes}
+use lib.Seq.{sets}
+use mir.Syntax.{w8}
+use mir.Val.{Fits}
+use Rattle.pgs_writer_lists.proofs.pds.EntriesRowWriter.put.Goals.{Start}
 use Rattle.pgs_writer_lists.proofs.pds.EntriesRowWriter.put.Goals as goal
+
+-- a cell fits its type
+cell : (c : Start) (k : ℕ) → Fits w8 (get_or c.args.row k 0)
+cell c k = search rules
 
 pub returns : goal.returns
 returns c =
-    (wrote c.args.out.now c.args.at
-    ((1, (get_or c.args.row 0 0)) ∷ (1, (get_or c.args.row 1 0)) ∷ (1, (get_or c.args.row 2 0)) ∷ (1, (get_or c.args.row 3 0))
-    ∷ []) 1 (get_or c.args.row 4 0)
-    (wrote c.args.out.now c.args.at
-    ((1, (get_or c.args.row 0 0)) ∷ (1, (get_or c.args.row 1 0)) ∷ (1, (get_or c.args.row 2 0)) ∷ []) 1 (get_or c.args.row 3 0)
-    (wrote c.args.out.now c.args.at ((1, (get_or c.args.row 0 0)) ∷ (1, (get_or c.args.row 1 0)) ∷ []) 1
-    (get_or c.args.row 2 0)
-    (wrote c.args.out.now c.args.at ((1, (get_or c.args.row 0 0)) ∷ []) 1 (get_or c.args.row 1 0) c.put_u8.ensures refl
-    c.put_u8-2.ensures) refl c.put_u8-3.ensures) refl c.put_u8-4.ensures) refl c.put_u8-5.ensures)
+    let row = c.args.row in
+    c.put_bytes.ensures ∙ ap (sets c.args.out.now c.args.at) (entry-bytes row (search rules) (λ i. (cell (goal.at.returns c).Start i).fits))

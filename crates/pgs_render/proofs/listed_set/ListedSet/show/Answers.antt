@@ -1,0 +1,24 @@
+use native.Mathlib.Omega.{arith}
+use Rattle.pgs_rendering.proofs.RenderLaws.{ready-storable, ready-present, ready-room, ready-stored, ready-painted}
+use Rattle.pgs_render.proofs.listed_set.ListedSet.show.Goals as goal
+
+pub store_bitmaps-requires : goal.store_bitmaps-requires
+store_bitmaps-requires c = ready-storable c.args.self.number c.args.self.others.stream.now c.args.self.listed c.requires
+
+pub paint_placements-requires-clause-present : goal.paint_placements-requires-clause-present
+paint_placements-requires-clause-present c =
+    rw c.placements.ensures (ready-present c.args.self.number c.args.self.others.stream.now c.args.self.listed c.requires)
+
+pub invariant_of-bitmaps : goal.invariant_of-bitmaps
+invariant_of-bitmaps c =
+    record { room = omega (arith, ready-room c.args.self.number c.args.self.others.stream.now c.args.self.listed c.requires, c.store_bitmaps.auto.scratch) }
+
+pub returns : goal.returns
+returns c =
+    let o = c.args.self in
+    record {
+      stored = ready-stored o.number o.others.stream.now o.listed c.requires c.store_bitmaps.ensures;
+      shown =
+          ready-painted o.number o.others.stream.now o.listed c.requires c.store_bitmaps.ensures o.composed c.composition-pcs.ensures o.bytes
+          c.color_table-table.ensures c.placements.ensures (rw c.plane_size-size.ensures at c.clear_plane.ensures) (rw c.plane_size-size.ensures at c.paint_placements.ensures);
+    }
