@@ -7,8 +7,6 @@ use Prim.Native.Nat.{ℕ, suc, ◌+◌, ◌≤◌, ◌<◌}
 use native.Mathlib.Numerals.{add-one}
 use native.Mathlib.Omega.{arith}
 use lib.ListN.{length, take, drop, set, length-set, length-append, length-drop, take-append-drop}
-use Rattle.std.proofs.Math.Nat.{add-zero}
-use Rattle.std.proofs.lemmas.List.{drop-take}
 use lib.Seq.{take-suc-set, take_all, drop-set-lt, take_at, drop_at, drop-drop, length-take-le}
 
 pub record Front {A : Type 0} (start whole now rest : List A) (k : ℕ) : Type 0 where
@@ -71,10 +69,3 @@ filled-whole {now = now} {rest = rest} {k = k} f h e =
     none : {A : Type 0} (l : List A) → length l ≡ 0 → l ≡ []
     none [] e = refl
     none (x ∷ l) e = absurd (omega arith)
-
--- a loop that went over the first n cells of a list filled them: the list is filled
-pub filled-part : {A : Type 0} {whole now : List A} {k : ℕ} (n : ℕ) (l : List A) → Front (take n l) whole now [] k → length whole ≡ n
-    → now ++ drop n l ≡ whole ++ drop (length whole) l
-filled-part {whole = whole} n l f e =
-    let gone : drop n (take n l) ≡ [] = ap (λ (m : ℕ). drop n (take m l)) (sym (add-zero n)) ∙ drop-take n 0 l in
-    rw (filled f, e, gone, append-nil)

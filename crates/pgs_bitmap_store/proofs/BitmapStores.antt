@@ -17,7 +17,7 @@ use Rattle.pgs_bitmap_store.proofs.RunFill.{one-in-front, run-in-front}
 use Rattle.pgs_bitmap_check.proofs.BitmapSteps.{taken_at, pixels-run, pixels-line, pixels-escape, pixels-none, pixels-truncated}
 
 -- what filling a run is, or as much of it as there is room for
-pub fits : (before after : List ℕ) (from count color stored : ℕ) → from + stored ≤ length before → stored ≤ count
+fits : (before after : List ℕ) (from count color stored : ℕ) → from + stored ≤ length before → stored ≤ count
     → (stored < count → from + stored ≡ length before)
     → take (from + stored) after ≡ take from before ++ replicate stored color → Filled before from count color (from + stored) after
 fits before after from count color stored room few all is =

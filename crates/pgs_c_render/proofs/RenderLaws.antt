@@ -1,17 +1,18 @@
 -- From the promise of painting to that of the C interface. Assumes nothing.
-use mathlib.Core.Path.{◌≡◌, sym, ap, ◌∙◌}
-use mathlib.Core.List.{List, [], ◌∷◌}
+use mathlib.Core.Path.{◌≡◌, sym, ◌∙◌}
+use mathlib.Core.List.{List}
 use Prim.Native.Nat.{ℕ}
-use Rattle.pgs_base.specs.Outcome.{accepted, refused, Outcome, gives, refuses}
-use Rattle.pgs_base.proofs.Outcomes.{gave, gave-value, turned_down}
-use Rattle.pgs_calls.proofs.CallLaws.{code-refused, code-accepted, stays, turns}
+use Rattle.pgs_base.specs.Outcome.{refused, Outcome, refuses}
+use Rattle.pgs_base.proofs.Outcomes.{turned_down}
+use Rattle.pgs_calls.proofs.CallLaws.{code-refused, stays}
 use Rattle.pgs_c_render.specs.Render.{RenderCall, render_call_verdict, shown_cells}
 use Rattle.pgs_color.specs.Bytes.{rgb_of}
 use Rattle.pgs_rendering.specs.Rendering.{Rendered, answer_of}
+use Rattle.pgs_rendering.specs.declared.Shown.{Shown}
 use Rattle.pgs_reassembly.specs.Objects.{objects_of, objects_verdict}
 use Rattle.pgs_set.specs.Sets.{set_number}
 
-module _ (s : List ℕ) (k : ℕ) {scratch scratch' plane plane' : List ℕ} {o : Outcome (ℕ × ℕ × ℕ)}
+module _ (s : List ℕ) (k : ℕ) {scratch scratch' plane plane' : List ℕ} {o : Outcome Shown}
     (d : Rendered rgb_of (objects_verdict k s) (set_number k s) (objects_of k s) scratch scratch' plane plane' o) where
   pub render-refused : {n r : ℕ} (shown : List ℕ) → o ≡ refuses n → r ≡ n → RenderCall s k scratch scratch' plane plane' shown shown r
   render-refused {n} shown e q =
@@ -19,17 +20,3 @@ module _ (s : List ℕ) (k : ℕ) {scratch scratch' plane plane' : List ℕ} {o 
     where
       down : render_call_verdict s k scratch plane ≡ refused n
       down = turned_down (render_call_verdict s k scratch plane) (answer_of (set_number k s)) (sym e ∙ d.answered)
-
-  pub render-accepted : {w h t : ℕ} (shown : List ℕ) {cells : List ℕ} → ◌≡◌ {A = Outcome (ℕ × ℕ × ℕ)} o (gives (w, h, t)) → cells ≡ w ∷ h ∷ t ∷ []
-      → RenderCall s k scratch scratch' plane plane' shown cells 0
-  render-accepted {w} {h} {t} shown e q =
-      record {
-        code = code-accepted up;
-        stored = d.stored;
-        painted = d.shown;
-        answered =
-            turns shown up (q ∙ ap shown_cells (gave-value (render_call_verdict s k scratch plane) (answer_of (set_number k s)) {x = (w, h, t)} (sym e ∙ d.answered)));
-      }
-    where
-      up : render_call_verdict s k scratch plane ≡ accepted
-      up = gave (render_call_verdict s k scratch plane) (answer_of (set_number k s)) {x = (w, h, t)} (sym e ∙ d.answered)

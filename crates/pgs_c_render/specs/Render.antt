@@ -5,6 +5,7 @@ use Rattle.pgs_calls.specs.Calls.{code_of, becomes}
 use Rattle.pgs_color.specs.Bytes.{rgb_of}
 use Rattle.pgs_rendering.specs.Images.{look_in}
 use Rattle.pgs_rendering.specs.Rendering.{colors_in, picture_of, early_verdict, content_verdict, render_verdict, left_by, answer_of}
+use Rattle.pgs_rendering.specs.declared.Shown.{Shown}
 use Rattle.pgs_reassembly.specs.Objects.{objects_of, objects_verdict}
 use Rattle.pgs_set.specs.Sets.{set_number}
 
@@ -13,8 +14,8 @@ abbrev pub render_call_verdict : List ℕ → ℕ → List ℕ → List ℕ → 
 render_call_verdict s k scratch plane = render_verdict (objects_verdict k s) (set_number k s) (objects_of k s) (length scratch) (length plane)
 
 -- what is shown, as cells: width, height, PTS
-abbrev pub shown_cells : ℕ × ℕ × ℕ → List ℕ
-shown_cells a = a.0 ∷ a.1 ∷ a.2 ∷ []
+abbrev pub shown_cells : Shown → List ℕ
+shown_cells a = a.size.width ∷ a.size.height ∷ a.pts ∷ []
 
 -- painting set number k: the joined data and the bitmaps, the pixels, and what is shown. Refused by 24 to 33 it has written the joined
 -- data, as document 01 says

@@ -1,14 +1,20 @@
 // Painting a display set.
-ghost use Rattle.std.specs.Prelude.{◌≡◌, ◌∷◌, []};
-ghost use Rattle.pgs_c_render.specs.Render.{RenderCall};
+ghost use Rattle.std.specs.Prelude.{◌≡◌};
+ghost use Rattle.pgs_c_render.specs.Render.{RenderCall, shown_cells};
 
 use pgs_render::render::render;
+use pgs_rendering::Shown;
 
 // What is shown, as cells: width, height, PTS.
-fn shown_cells(width: u16, height: u16, pts: u32) -> [u64; 3]
-    ensures { result ≡ width ∷ height ∷ pts ∷ [] }
+// Stays a function, as those of `pgs_cells`: `From` for an array of three u64 would not say which numbers they are.
+fn shown_cells(shown: Shown) -> [u64; 3]
+    ensures { result ≡ shown_cells shown }
 {
-    [u64::from(width), u64::from(height), u64::from(pts)]
+    [
+        u64::from(shown.size.width),
+        u64::from(shown.size.height),
+        u64::from(shown.pts),
+    ]
 }
 
 pub fn pgs_render(
@@ -22,8 +28,8 @@ pub fn pgs_render(
 {
     match render(stream, set as usize, scratch, plane) {
         Err(why) => why.number(),
-        Ok((width, height, pts)) => {
-            *shown = shown_cells(width, height, pts);
+        Ok(answer) => {
+            *shown = shown_cells(answer);
             0
         }
     }

@@ -23,6 +23,8 @@ pub fn pgs_encode_ods(
 ) -> u8
     ensures { WriteCall (ods_cells_writable pts dts ods.now «data».now) (ods_segment pts dts (ods_from ods.now) «data».now) out.old out.new written.old written.new result }
 {
+    // Stays a match: `and_then` does not promise that its closure, which writes, is left uncalled where the cells are refused, and of a function
+    // with `?` the contract would say all that this one says.
     match ods_from(*ods) {
         Err(why) => why.number(),
         Ok(numbers) => told(

@@ -24,6 +24,8 @@ pub fn pgs_encode_pcs(
 ) -> u8
     ensures { WriteCall (pcs_cells_writable pts dts pcs.now placements.now) (pcs_segment pts dts (pcs_from pcs.now) placements.now) out.old out.new written.old written.new result }
 {
+    // Stays a match: `and_then` does not promise that its closure, which writes, is left uncalled where the cells are refused, and of a function
+    // with `?` the contract would say all that this one says.
     match pcs_from(*pcs) {
         Err(why) => why.number(),
         Ok(numbers) => told(

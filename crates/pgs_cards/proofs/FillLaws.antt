@@ -2,14 +2,14 @@
 use mathlib.Core.Path.{◌≡◌, refl, sym, ap, ◌∙◌}
 use mathlib.Core.Bool.{Bool, true, false}
 use mathlib.Core.List.{List, [], ◌∷◌, ◌++◌}
-use Prim.Native.Nat.{ℕ, zero, suc, ◌+◌, ◌-◌, ◌≤◌, ◌<◌}
+use Prim.Native.Nat.{ℕ, zero, suc, ◌+◌, ◌-◌, ◌≤◌}
 use native.Mathlib.Omega.{arith}
 use lib.ListN.{length, take, drop, length-append}
 use lib.Seq.{length-take-le}
 use lib.Dec.{leb}
 use borrow.Author.Tests.{leb-true, leb-false}
-use Rattle.pgs_base.specs.Outcome.{accepted, Outcome, gives, refuses, outcome_of, laid, pick}
-use Rattle.pgs_base.proofs.Front.{Front, begins, filled}
+use Rattle.pgs_base.specs.Outcome.{accepted, Outcome, gives, refuses, outcome_of, pick}
+use Rattle.pgs_base.proofs.Front.{Front, begins}
 use Rattle.pgs_base.proofs.Outcomes.{first-accepts, second_holds, gave-value, not-both, turned_down}
 use Rattle.pgs_segment.specs.Fields.{body_list, body_of, body_verdict, numbers_of}
 use Rattle.pgs_segment.specs.Header.{pts_of}
@@ -31,8 +31,8 @@ use Rattle.pgs_segment.proofs.SegmentLaws.{accepted-body}
 use Rattle.pgs_stream.specs.Segments.{segments_from}
 use Rattle.pgs_stream.specs.declared.segments.PlacedSegment.{PlacedSegment}
 use Rattle.pgs_stream.proofs.SegmentLaws.{none-left, first-left}
-use Rattle.pgs_reassembly.proofs.FragmentLaws.{lent-body}
-use Rattle.pgs_set.proofs.SegmentLaws.{Stands, AllStand, stands-end, stands-kind, stands-within}
+use Rattle.pgs_reassembly.proofs.FragmentLaws.{body-lent}
+use Rattle.pgs_set.proofs.SegmentLaws.{Stands, AllStand, stands-kind}
 use Rattle.pgs_set.specs.declared.grouping.Grouping.TheVariants.{Outside}
 use Rattle.pgs_cards.proofs.FoldLaws.{open_lines, lines_left_lem, opened-few}
 use Rattle.pgs_cards.proofs.LineLaws.{line-length}
@@ -148,26 +148,13 @@ module _ (s : List ℕ) where
         front = rw all (begins start (card_lines s));
       })
 
-  pub writes-all : {start now : List ℕ} {c : Card} {xs : List PlacedSegment} {k : ℕ} → Writing s start now c xs k → xs ≡ []
-      → now ≡ laid accepted (card_lines s) start
-  writes-all {c = c} w e = filled (rw (ap (lines_in s c) e) at w.front)
-
   module _ {start now : List ℕ} {c : Card} {x : PlacedSegment} {xs : List PlacedSegment} {k : ℕ} (w : Writing s start now c (x ∷ xs) k) where
     its : Stands s x
     its = w.stand.0
 
-    pub more_fit : c.objects < length s
-    more_fit = omega (arith, w.few)
-
-    pub body-within : x.at + 13 ≤ x.end
-    body-within = omega (arith, stands-end its)
-
-    pub ends-within : x.end ≤ length s
-    ends-within = stands-within its
-
     -- what the body is read from
     lent : take (x.end - (x.at + 13)) (drop (x.at + 13) s) ≡ body_at (drop x.at s)
-    lent = rw (stands-end its) (lent-body s x.at refl)
+    lent = body-lent its
 
     module _ {t : SegmentType} (q : t ≡ type_of x.header.segment_type) where
       kind : t ≡ segment_type (drop x.at s)

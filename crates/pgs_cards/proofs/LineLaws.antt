@@ -1,9 +1,9 @@
 -- How long lines are, and the line that is written field by field. Assumes nothing.
 use mathlib.Core.Path.{◌≡◌, refl, sym, ap, ◌∙◌}
 use mathlib.Core.List.{List, [], ◌∷◌, ◌++◌, map, append-nil}
-use Prim.Native.Nat.{ℕ, ◌+◌, ◌*◌, ◌-◌, ◌≤◌}
+use Prim.Native.Nat.{ℕ, ◌+◌, ◌*◌, ◌≤◌}
 use native.Mathlib.Omega.{arith}
-use lib.ListN.{length, take, drop, set, length-append, length-take, length-drop, length-map, drop_of_length-le}
+use lib.ListN.{length, take, drop, set, length-append, length-map, drop_of_length-le}
 use lib.Seq.{drop-drop}
 use Rattle.pgs_base.proofs.Front.{Front, begins, stored, filled}
 use Rattle.pgs_reassembly.proofs.JoinLaws.{part-back}
@@ -25,18 +25,6 @@ module _ (w n : ℕ) {start whole now rest : List ℕ} {k : ℕ} (f : Front star
   pub puts-on : k + w ≤ length now → {new : List ℕ} → new ≡ take k now ++ (hex w n ++ drop (k + w) now) → Front start whole new rest (k + w)
   puts-on h e =
       rw (e ∙ ap (λ (l : List ℕ). take k now ++ (hex w n ++ l)) (sym (drop-drop w k now))) (part-back (hex w n) f (sym (hex-length w n)) h)
-
--- the digits fill their part
-pub part_filled : (k w n : ℕ) (now : List ℕ) {ys : List ℕ} → k + w ≤ length now → ys ≡ hex (length (take (k + w - k) (drop k now))) n
-    → take k now ++ (ys ++ drop (k + w - k) (drop k now)) ≡ take k now ++ (hex w n ++ drop (k + w) now)
-part_filled k w n now {ys} h e =
-    λ j. take k now ++ ((e ∙ ap (λ (m : ℕ). hex m n) size) j ++ (ap (λ (m : ℕ). drop m (drop k now)) less ∙ drop-drop w k now) j)
-  where
-    less : k + w - k ≡ w
-    less = omega arith
-
-    size : length (take (k + w - k) (drop k now)) ≡ w
-    size = omega (arith, length-take (k + w - k) (drop k now), length-drop k now)
 
 -- a line is written from its front to its end
 pub line-written : (c : Card) (l : List ℕ) → length l ≡ line_length → {l1 l2 l3 l4 l5 l6 l7 l8 : List ℕ}

@@ -4,16 +4,16 @@ use mathlib.Core.Bool.{Bool, true, false}
 use mathlib.Core.List.{List, [], ◌∷◌, ◌++◌}
 use Prim.Native.Nat.{ℕ, ◌+◌, ◌/◌, ◌%◌, ◌≤◌, ◌<◌}
 use native.Mathlib.Omega.{arith}
-use borrow.Author.Tests.{leb-true, le-leb, lt-leb, lt-ltb, le-ltb}
+use borrow.Author.Tests.{leb-true, le-leb, lt-leb}
 use lib.ListN.{length}
 use lib.Dec.{leb, ltb}
-use Rattle.pgs_base.specs.Outcome.{Verdict, accepted, refused, Outcome, gives, refuses, outcome_of, and_then, unless, Delivered, pick}
-use Rattle.pgs_base.proofs.Outcomes.{gave, gave-value, turned_down, first-accepts}
+use Rattle.pgs_base.specs.Outcome.{Verdict, accepted, refused, Outcome, gives, refuses, outcome_of, Delivered, pick}
+use Rattle.pgs_base.proofs.Outcomes.{gave, turned_down, first-accepts}
 use Rattle.pgs_reassembly.specs.Objects.{all_objects_verdict}
 use Rattle.pgs_set.specs.Sets.{set_count, sets_verdict}
 use Rattle.pgs_cards.proofs.LineLaws.{card-lines-length}
 use Rattle.pgs_cards.proofs.RoomLaws.{sets-room}
-use Rattle.pgs_cards.specs.Cards.{card_lines, cards_verdict}
+use Rattle.pgs_cards.specs.Cards.{card_lines}
 use Rattle.pgs_cards.specs.Reports.{input_limit, printed, refusal_line, report_of, too_long}
 
 -- what testing the objects of a stream answered
@@ -21,21 +21,6 @@ module _ (s : List ℕ) where
   module _ {n : ℕ} (e : gives n ≡ outcome_of (all_objects_verdict s) (set_count s)) where
     pub tested : all_objects_verdict s ≡ accepted
     tested = gave (all_objects_verdict s) (set_count s) e
-
-    pub tested-sets : sets_verdict s ≡ accepted
-    tested-sets = first-accepts (sets_verdict s) _ tested
-
-    pub tested-count : n ≡ set_count s
-    tested-count = gave-value (all_objects_verdict s) (set_count s) e
-
-    pub place-fits : length s ≤ 4294967296 → cards_verdict s ≡ accepted
-    place-fits h = simp (tested, le-leb (length s) 4294967296 h)
-
-    pub place-too-far : 4294967296 < length s → cards_verdict s ≡ refused 35
-    place-too-far h = simp (tested, lt-leb (length s) 4294967296 h)
-
-  pub refused-first : {k : ℕ} → refuses k ≡ outcome_of (all_objects_verdict s) (set_count s) → cards_verdict s ≡ refused k
-  refused-first e = ap (λ (v : Verdict). and_then v (unless 35 (leb (length s) 4294967296))) (turned_down (all_objects_verdict s) (set_count s) e)
 
   -- what is printed
   pub says-too-long : input_limit < length s → too_long ≡ report_of s
@@ -52,13 +37,6 @@ module _ (s : List ℕ) where
     pub says-cards : {n : ℕ} → gives n ≡ outcome_of (all_objects_verdict s) (set_count s) → card_lines s ≡ report_of s
     unfolding report_of
     says-cards e = λ j. pick (sym (le-leb (length s) input_limit h) j) (printed (sym (tested e) j) (card_lines s)) too_long
-
--- the line of a refusal, by the number of its digits
-pub refusal-short : (n : ℕ) → n < 10 → 82 ∷ 69 ∷ 70 ∷ 85 ∷ 83 ∷ 69 ∷ 68 ∷ 32 ∷ (48 + n) ∷ 10 ∷ [] ≡ refusal_line n
-refusal-short n h = simp (lt-ltb n 10 h)
-
-pub refusal-long : (n : ℕ) → 10 ≤ n → 82 ∷ 69 ∷ 70 ∷ 85 ∷ 83 ∷ 69 ∷ 68 ∷ 32 ∷ (48 + n / 10) ∷ (48 + n % 10) ∷ 10 ∷ [] ≡ refusal_line n
-refusal-long n h = simp (le-ltb n 10 h)
 
 -- a text that was written, by another name
 pub text-is : {new text before after : List ℕ} {o : Outcome ℕ} → new ≡ text → Delivered accepted (length new) new before after o

@@ -1,10 +1,8 @@
 // A card: what one line says of a display set (01, 'Bench samples').
 ghost use Rattle.std.specs.Prelude.{◌≡◌, ◌+◌, ◌<◌, ◌^◌};
-ghost use Rattle.pgs_cards.specs.Walks.{card_after, closes, opens};
+ghost use Rattle.pgs_cards.specs.Walks.{card_after, closes};
 
-use pgs_ods::ods::Ods;
 use pgs_segment::segment::SegmentBody;
-use pgs_views::fragment_flag::FragmentFlag;
 
 #[derive(Clone, Copy, Debug, Default, PartialEq, Eq)]
 pub(crate) struct Card {
@@ -18,13 +16,6 @@ pub(crate) struct Card {
     pub objects: usize,
     pub width: u16,
     pub height: u16,
-}
-
-// Whether a fragment opens an object.
-fn opens(ods: Ods) -> bool
-    ensures { result ≡ opens ods }
-{
-    FragmentFlag::from(ods.last_in_sequence_flag).is_first()
 }
 
 // Whether a segment closes its set.
@@ -52,7 +43,7 @@ impl Card {
                 height: pcs.height,
             },
             SegmentBody::Ods(ods) => Card {
-                objects: self.objects + usize::from(opens(ods)),
+                objects: self.objects + usize::from(ods.is_first()),
                 ..self
             },
             _ => self,

@@ -21,6 +21,7 @@ fn fill_lines(sets: DisplaySets<'_>, out: &mut [u8])
 {
     let s = sets.stream;
     let mut card = Card::default();
+    // Stays a place: of an output that is written through `chunks_exact_mut`, std does not say what it then holds
     let mut k: usize = 0;
     for segment in (Segments { stream: s, at: 0 }) {
         let kind = segment.header.kind();

@@ -23,6 +23,7 @@ fn put_text(text: &[u8], out: &mut [u8]) -> Result<usize, Refusal>
 }
 
 // Writes the line of a refusal.
+// Stays by hand: the text is stored among lent bytes, and `Display` writes to a text of its own.
 fn put_refusal(n: u8, out: &mut [u8]) -> Result<usize, Refusal>
     ensures { Delivered accepted (length (refusal_line n)) (refusal_line n) out.old out.new (outcome result) }
 {

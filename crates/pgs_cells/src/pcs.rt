@@ -6,7 +6,7 @@ ghost use Rattle.pgs_cells.specs.PcsCells.{pcs_cells, pcs_from, pcs_cells_fit};
 use pgs_base::refusal::Refusal;
 use pgs_pcs::pcs::Pcs;
 
-// Stays a function, as the three others: the cells are this crate's record of the C interface, and `From` for an array of seven u16 would
+// Stays a function, as `pcs_from`, `pds_cells` and `pds_from`: the cells are this crate's record of the C interface, and `From` for an array of seven u16 would
 // not say which numbers they are.
 pub fn pcs_cells(p: Pcs) -> [u16; 7]
     ensures { result ≡ pcs_cells p }

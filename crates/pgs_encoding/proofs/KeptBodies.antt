@@ -6,34 +6,31 @@ use Prim.Native.Nat.{ℕ, ◌+◌, ◌-◌, ◌*◌, ◌%◌, ◌≤◌}
 use native.Mathlib.Omega.{arith}
 use borrow.Author.Tests.{eqb-true}
 use lib.Dec.{leb, eqb}
-use lib.ListN.{length, take, drop, length-drop, take-append-drop}
-use lib.Seq.{take-add, take-length}
+use lib.ListN.{length, take, drop, take-append-drop}
+use lib.Seq.{take-length}
 use Rattle.pgs_base.specs.Bytes.{Bytes}
 use Rattle.pgs_views.specs.Fragments.{fragment_of, is_first}
-use Rattle.pgs_base.specs.Outcome.{accepted, unless, pick}
-use Rattle.pgs_base.proofs.Digits.{bytes_drop}
+use Rattle.pgs_base.specs.Outcome.{accepted, unless}
 use Rattle.pgs_base.proofs.Outcomes.{second_holds, holds}
 use Rattle.pgs_views.specs.declared.segment_type.SegmentType.{SegmentType}
 use Rattle.pgs_views.specs.declared.segment_type.SegmentType.TheVariants as kinds
 use Rattle.pgs_segment.specs.Fields.{body_verdict, body_of}
 use Rattle.pgs_ods.specs.OdsBody.{ods_of, ods_data, ods_verdict, flag_of, head_size}
 use Rattle.pgs_pcs.specs.PcsBody.{pcs_of, placement_of, placement_size, placement_count, placements_of, pcs_verdict}
-use Rattle.pgs_pds.specs.PdsBody.{entry_of, entry_size, entry_count, entries_of, pds_verdict}
+use Rattle.pgs_pds.specs.PdsBody.{entry_size, entry_count, pds_verdict}
 use Rattle.pgs_records.specs.Records.{records_size}
-use Rattle.pgs_pds.specs.declared.pds.PaletteEntry.{PaletteEntry}
-use Rattle.pgs_wds.specs.declared.wds.Window.{Window}
 use Rattle.pgs_wds.specs.WdsBody.{window_of, window_size, window_count, windows_of, wds_verdict}
 use Rattle.pgs_ods.proofs.OdsLaws as ods-laws
 use Rattle.pgs_pcs.proofs.PcsLaws as pcs-laws
 use Rattle.pgs_pds.proofs.PdsLaws as pds-laws
 use Rattle.pgs_records.proofs.RecordLaws.{records-length, size-fixed}
 use Rattle.pgs_wds.proofs.WdsLaws as wds-laws
-use Rattle.pgs_encoding.specs.Encode.{body_bytes, pcs_fields, placement_fields, window_fields, entry_fields, ods_fields}
-use Rattle.pgs_encoding.specs.Layout.{written, all_fit, each}
-use Rattle.pgs_encoding.specs.Writable.{body_writable, placement_writable, unknown_kind}
-use Rattle.pgs_encoding.proofs.LayoutLaws.{write-fields, fit-fields}
-use Rattle.pgs_encoding.proofs.RecordBytes.{write-records, each-record, records-within}
-use Rattle.pgs_encoding.proofs.RecordKinds.{window-kept, entry_kept, placement-kept}
+use Rattle.pgs_encoding.specs.Encode.{body_bytes, pcs_fields, ods_fields}
+use Rattle.pgs_encoding.specs.Layout.{written}
+use Rattle.pgs_encoding.specs.Writable.{body_writable, unknown_kind}
+use Rattle.pgs_encoding.proofs.LayoutLaws.{numbers_at, paired, write-fields, fit-fields}
+use Rattle.pgs_encoding.proofs.RecordBytes.{list-written, list-within, list-writable}
+use Rattle.pgs_encoding.proofs.RecordKinds.{windows, entries, placements}
 
 -- how many bytes are kept, by the kind
 abbrev pub kept_by : SegmentType → List ℕ → ℕ
@@ -59,18 +56,12 @@ module _ (b : List ℕ) (h : Bytes b) where
       let long = pcs-laws.has-numbers b e in
       let fit = pcs-laws.has-placements b e in
       let n = placement_count b in
-      let count : length (placements_of b) ≡ n = records-length placement_of placement_size n (drop 11 b) in
-      let head : written (pcs_fields (pcs_of b) (length (placements_of b))) ≡ take 11 b
-      = ap (λ (k : ℕ). written (pcs_fields (pcs_of b) k)) count ∙ write-fields pcs_widths 0 b h (omega arith) in
-      let list = write-records placement_fields placement_of placement_size placement_writable placement-kept n (drop 11 b) (bytes_drop 11 b h) fit in
-      let room = records-within placement_fields placement_of placement_size placement_writable placement-kept n (drop 11 b) fit in
-      let fits : all_fit (pcs_fields (pcs_of b) (length (placements_of b))) ≡ true
-      = ap (λ (k : ℕ). all_fit (pcs_fields (pcs_of b) k)) count ∙ fit-fields pcs_widths 0 b h (omega arith) in
-      let all = each-record placement_fields placement_of placement_size placement_writable placement-kept n (drop 11 b) (bytes_drop 11 b h) fit in
+      let head : pcs_fields (pcs_of b) (length (placements_of b)) ≡ paired pcs_widths (numbers_at pcs_widths 0 b)
+      = ap (pcs_fields (pcs_of b)) (records-length placement_of placement_size n (drop 11 b)) in
       record {
-        bytes = (λ k. head k ++ list k) ∙ sym (take-add 11 (records_size placement_size n (drop 11 b)) b);
-        within = omega (arith, room, length-drop 11 b, long);
-        fine = λ _. (ap (λ (t : Bool). pick t (each placement_writable (placements_of b)) false) fits ∙ all);
+        bytes = list-written placements pcs_widths n b h long fit head;
+        within = list-within placements pcs_widths n b h long fit head;
+        fine = λ _. list-writable placements pcs_widths n b h long fit head;
       }
 
   kept-wds : wds_verdict b ≡ accepted → KeptBody kinds.Wds b
@@ -78,22 +69,13 @@ module _ (b : List ℕ) (h : Bytes b) where
       let long = wds-laws.has-count b e in
       let fit = wds-laws.has-windows b e in
       let n = window_count b in
-      let test : Window → Bool = λ w. all_fit (window_fields w) in
-      let count : length (windows_of b) ≡ n = records-length window_of window_size n (drop 1 b) in
+      let head : (1, length (windows_of b)) ∷ [] ≡ paired (1 ∷ []) (numbers_at (1 ∷ []) 0 b)
+      = ap (λ (k : ℕ). (1, k) ∷ []) (records-length window_of window_size n (drop 1 b)) in
       let size : records_size window_size n (drop 1 b) ≡ 9 * n = size-fixed 9 n (drop 1 b) in
-      let head : written ((1, length (windows_of b)) ∷ []) ≡ take 1 b
-      = ap (λ (k : ℕ). written ((1, k) ∷ [])) count ∙ write-fields (1 ∷ []) 0 b h (omega arith) in
-      let list = write-records window_fields window_of window_size test window-kept n (drop 1 b) (bytes_drop 1 b h) fit in
-      let room = records-within window_fields window_of window_size test window-kept n (drop 1 b) fit in
-      let fits : all_fit ((1, length (windows_of b)) ∷ []) ≡ true
-      = ap (λ (k : ℕ). all_fit ((1, k) ∷ [])) count ∙ fit-fields (1 ∷ []) 0 b h (omega arith) in
-      let all = each-record window_fields window_of window_size test window-kept n (drop 1 b) (bytes_drop 1 b h) fit in
       record {
-        bytes =
-            (λ k. head k ++ list k)
-            ∙ (sym (take-add 1 (records_size window_size n (drop 1 b)) b) ∙ ap (λ (k : ℕ). take (1 + k) b) size);
-        within = omega (arith, room, size, length-drop 1 b, long);
-        fine = λ _. (ap (λ (t : Bool). pick t (each test (windows_of b)) false) fits ∙ all);
+        bytes = list-written windows (1 ∷ []) n b h long fit head ∙ ap (λ (k : ℕ). take (1 + k) b) size;
+        within = omega (arith, list-within windows (1 ∷ []) n b h long fit head, size);
+        fine = λ _. list-writable windows (1 ∷ []) n b h long fit head;
       }
 
   kept-pds : pds_verdict b ≡ accepted → KeptBody kinds.Pds b
@@ -101,19 +83,13 @@ module _ (b : List ℕ) (h : Bytes b) where
       let long = pds-laws.has-numbers b e in
       let fit = pds-laws.has-entries b in
       let n = entry_count b in
-      let test : PaletteEntry → Bool = λ a. all_fit (entry_fields a) in
       let whole : (length b - 2) % 5 ≡ 0 = eqb-true _ _ (holds 5 _ (second_holds (unless 4 (leb 2 (length b))) _ e)) in
       let size : records_size entry_size n (drop 2 b) ≡ 5 * n = size-fixed 5 n (drop 2 b) in
-      let head = write-fields (1 ∷ 1 ∷ []) 0 b h (omega arith) in
-      let list = write-records entry_fields entry_of entry_size test entry_kept n (drop 2 b) (bytes_drop 2 b h) fit in
-      let all = each-record entry_fields entry_of entry_size test entry_kept n (drop 2 b) (bytes_drop 2 b h) fit in
       let sum : 2 + records_size entry_size n (drop 2 b) ≡ length b = omega arith in
       record {
-        bytes =
-            (λ k. head k ++ list k)
-            ∙ (sym (take-add 2 (records_size entry_size n (drop 2 b)) b) ∙ ap (λ (k : ℕ). take k b) sum);
+        bytes = list-written entries (1 ∷ 1 ∷ []) n b h long fit refl ∙ ap (λ (k : ℕ). take k b) sum;
         within = omega arith;
-        fine = λ _. (ap (λ (t : Bool). pick t (each test (entries_of b)) false) (fit-fields (1 ∷ 1 ∷ []) 0 b h (omega arith)) ∙ all);
+        fine = λ _. list-writable entries (1 ∷ 1 ∷ []) n b h long fit refl;
       }
 
   kept-ods : ods_verdict b ≡ accepted → KeptBody kinds.Ods b

@@ -9,9 +9,8 @@ use native.Mathlib.Omega.{arith}
 use borrow.Author.Tests.{not-true}
 use lib.Dec.{eqb}
 use lib.ListN.{length, take, get_or}
+use Rattle.pgs_base.specs.Bytes.{Bytes}
 use Rattle.pgs_pcs.specs.PcsBody.{cropped, cropping_of, placement_of, placement_size}
-use Rattle.pgs_pds.specs.PdsBody.{entry_of, entry_size}
-use Rattle.pgs_wds.specs.WdsBody.{window_of, window_size}
 use Rattle.pgs_records.proofs.RecordLaws.{first_fits, rest-fits}
 use Rattle.pgs_pcs.specs.declared.pcs.CompositionObject.{CompositionObject}
 use Rattle.pgs_pds.specs.declared.pds.PaletteEntry.{PaletteEntry}
@@ -20,45 +19,27 @@ use Rattle.pgs_encoding.specs.Encode.{window_fields, entry_fields, placement_fie
 use Rattle.pgs_encoding.specs.Layout.{written, all_fit}
 use Rattle.pgs_encoding.specs.Writable.{crop_where, placement_writable}
 use Rattle.pgs_encoding.proofs.LayoutLaws.{values, length-written, read-fields, write-fields, fit-fields}
-use Rattle.pgs_encoding.proofs.RecordBytes.{Kept, Read}
+use Rattle.pgs_encoding.proofs.RecordBytes.{RecordKind, of_widths}
 
--- windows
-abbrev window_widths : List ℕ
-window_widths = 1 ∷ 2 ∷ 2 ∷ 2 ∷ 2 ∷ []
+-- a window and an entry, of their numbers
+abbrev window_made : List ℕ → Window
+window_made n =
+    record {
+      window_id = get_or n 0 0;
+      horizontal_position = get_or n 1 0;
+      vertical_position = get_or n 2 0;
+      width = get_or n 3 0;
+      height = get_or n 4 0;
+    }
 
-pub window-kept : Kept window_fields window_of window_size (λ w. all_fit (window_fields w))
-unfolding Kept
-window-kept l h q = (write-fields window_widths 0 l h (omega arith), fit-fields window_widths 0 l h (omega arith))
+abbrev entry_made : List ℕ → PaletteEntry
+entry_made n = record { palette_entry_id = get_or n 0 0; y = get_or n 1 0; cr = get_or n 2 0; cb = get_or n 3 0; alpha = get_or n 4 0 }
 
-pub window-read : Read window_fields window_of window_size (λ w. all_fit (window_fields w))
-unfolding Read
-window-read w r e =
-    (sym (length-written (window_fields w)), ap made (read-fields (window_fields w) [] r 0 refl e))
-  where
-    made : List ℕ → Window
-    made n =
-        record {
-          window_id = get_or n 0 0;
-          horizontal_position = get_or n 1 0;
-          vertical_position = get_or n 2 0;
-          width = get_or n 3 0;
-          height = get_or n 4 0;
-        }
+abbrev pub windows : RecordKind Window
+windows = of_widths window_fields window_made (1 ∷ 2 ∷ 2 ∷ 2 ∷ 2 ∷ []) (λ w. refl) (λ w. refl) (λ l. refl)
 
--- entries
-abbrev entry_widths : List ℕ
-entry_widths = 1 ∷ 1 ∷ 1 ∷ 1 ∷ 1 ∷ []
-
-pub entry_kept : Kept entry_fields entry_of entry_size (λ e. all_fit (entry_fields e))
-unfolding Kept
-entry_kept l h q = (write-fields entry_widths 0 l h (omega arith), fit-fields entry_widths 0 l h (omega arith))
-
-pub entry_read : Read entry_fields entry_of entry_size (λ e. all_fit (entry_fields e))
-unfolding Read
-entry_read a r e = (sym (length-written (entry_fields a)), ap made (read-fields (entry_fields a) [] r 0 refl e))
-  where
-    made : List ℕ → PaletteEntry
-    made n = record { palette_entry_id = get_or n 0 0; y = get_or n 1 0; cr = get_or n 2 0; cb = get_or n 3 0; alpha = get_or n 4 0 }
+abbrev pub entries : RecordKind PaletteEntry
+entries = of_widths entry_fields entry_made (1 ∷ 1 ∷ 1 ∷ 1 ∷ 1 ∷ []) (λ e. refl) (λ e. refl) (λ l. refl)
 
 -- placements, with and without a crop
 abbrev plain_widths : List ℕ
@@ -67,8 +48,8 @@ plain_widths = 2 ∷ 1 ∷ 1 ∷ 2 ∷ 2 ∷ []
 abbrev cropped_widths : List ℕ
 cropped_widths = 2 ∷ 1 ∷ 1 ∷ 2 ∷ 2 ∷ 2 ∷ 2 ∷ 2 ∷ 2 ∷ []
 
-pub placement-kept : Kept placement_fields placement_of placement_size placement_writable
-unfolding Kept
+pub placement-kept : (l : List ℕ) → Bytes l → placement_size l ≤ length l
+    → (written (placement_fields (placement_of l)) ≡ take (placement_size l) l) × (placement_writable (placement_of l) ≡ true)
 placement-kept l h q = go (cropped l) refl
   where
     go : (t : Bool) → cropped l ≡ t
@@ -80,8 +61,8 @@ placement-kept l h q = go (cropped l) refl
         let room : 8 ≤ length l = rw e at q in
         (simp e (write-fields plain_widths 0 l h (omega arith)), simp e (fit-fields plain_widths 0 l h (omega arith)))
 
-pub placement-read : Read placement_fields placement_of placement_size placement_writable
-unfolding Read
+pub placement-read : (p : CompositionObject) (r : List ℕ) → placement_writable p ≡ true
+    → (placement_size (written (placement_fields p) ++ r) ≡ length (written (placement_fields p))) × (placement_of (written (placement_fields p) ++ r) ≡ p)
 placement-read p r = go p.cropping
   where
     -- the numbers, with this crop
@@ -124,3 +105,14 @@ placement-read p r = go p.cropping
         let has : cropped (written fs ++ r) ≡ true = ap (λ (n : List ℕ). eqb (get_or n 2 0) 0x40) numbers ∙ flag in
         let one : cropping_of (written fs ++ r) ≡ Some c = simp has (ap crop numbers) in
         (simp has (sym (length-written fs)), ap (λ (n : List ℕ). made n (cropping_of (written fs ++ r))) numbers ∙ ap (made (values fs)) one)
+
+abbrev pub placements : RecordKind CompositionObject
+placements =
+    record {
+      fields = placement_fields;
+      read = placement_of;
+      size = placement_size;
+      test = placement_writable;
+      kept = placement-kept;
+      again = placement-read;
+    }

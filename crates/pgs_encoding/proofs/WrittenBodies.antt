@@ -2,7 +2,7 @@
 use Rattle.std.specs.Prelude.{Option, None, Some}
 use mathlib.Core.Path.{◌≡◌, refl, sym, ap, ◌∙◌, subst}
 use mathlib.Core.Bool.{Bool, true, false}
-use mathlib.Core.List.{List, [], ◌∷◌, ◌++◌, append-nil}
+use mathlib.Core.List.{List, [], ◌∷◌, ◌++◌}
 use Prim.Native.Nat.{ℕ, ◌+◌, ◌-◌, ◌*◌, ◌%◌, ◌≤◌}
 use native.Mathlib.Omega.{arith}
 use borrow.Author.Tests.{le-leb, eq-eqb, not-true}
@@ -16,10 +16,9 @@ use Rattle.pgs_views.specs.declared.segment_type.SegmentType.{SegmentType}
 use Rattle.pgs_views.specs.declared.segment_type.SegmentType.TheVariants as kinds
 use Rattle.pgs_segment.specs.Fields.{BodyFields, pcs, wds, pds, ods, end, other, body_verdict, body_of, kind_byte}
 use Rattle.pgs_ods.specs.OdsBody.{ods_of, ods_data, flag_of, head_size, dimensions_of}
-use Rattle.pgs_pcs.specs.PcsBody.{pcs_of, placement_of, placement_size, placement_count, placements_of}
-use Rattle.pgs_pds.specs.PdsBody.{pds_of, entry_of, entry_size, entry_count, entries_of}
-use Rattle.pgs_records.specs.Records.{records, records_fit}
-use Rattle.pgs_wds.specs.WdsBody.{window_of, window_size, window_count, windows_of}
+use Rattle.pgs_pcs.specs.PcsBody.{pcs_of, placement_count, placements_of}
+use Rattle.pgs_pds.specs.PdsBody.{pds_of, entry_count, entries_of}
+use Rattle.pgs_wds.specs.WdsBody.{window_count, windows_of}
 use Rattle.pgs_base.specs.declared.dimensions.Dimensions.{Dimensions}
 use Rattle.pgs_ods.specs.declared.ods.Ods.{Ods}
 use Rattle.pgs_pcs.specs.declared.pcs.CompositionObject.{CompositionObject}
@@ -28,44 +27,29 @@ use Rattle.pgs_pds.specs.declared.pds.PaletteEntry.{PaletteEntry}
 use Rattle.pgs_pds.specs.declared.pds.Pds.{Pds}
 use Rattle.pgs_wds.specs.declared.wds.Window.{Window}
 use Rattle.pgs_records.proofs.RecordLaws.{first_fits, rest-fits}
-use Rattle.pgs_encoding.specs.Encode.{body_bytes, pcs_fields, placement_fields, window_fields, pds_fields, entry_fields, ods_fields}
-use Rattle.pgs_encoding.specs.Layout.{Field, written, all_fit, each, record_bytes}
-use Rattle.pgs_encoding.specs.Writable.{body_writable, placement_writable, unknown_kind, dimensions_where}
+use Rattle.pgs_encoding.specs.Encode.{body_bytes, pcs_fields, pds_fields, entry_fields, ods_fields}
+use Rattle.pgs_encoding.specs.Layout.{Field, written, all_fit, record_bytes}
+use Rattle.pgs_encoding.specs.Writable.{body_writable, unknown_kind, dimensions_where}
 use Rattle.pgs_encoding.proofs.LayoutLaws.{values, length-written, read-fields}
-use Rattle.pgs_encoding.proofs.RecordBytes.{Read, read-records, written-fit}
-use Rattle.pgs_encoding.proofs.RecordKinds.{window-read, entry_read, placement-read}
+use Rattle.pgs_encoding.proofs.RecordBytes.{numbers-again, numbers-within, records-again, fit-again}
+use Rattle.pgs_encoding.proofs.RecordKinds.{windows, entries, placements}
 
 -- the body that was written is accepted, and its fields are those written
 pub record ReadBody (t : SegmentType) (f : BodyFields) : Type 0 where
   pub taken : body_verdict t (body_bytes f) ≡ accepted
   pub same : body_of t (body_bytes f) ≡ f
 
--- the records of a list that stands alone
-module _ {A : Type 0} (fields : A → List Field) (read : List ℕ → A) (size : List ℕ → ℕ) (test : A → Bool) (k : Read fields read size test) (as' : List A)
-    (e : each test as' ≡ true) where
-  alone : records read size (length as') (record_bytes fields as') ≡ as'
-  alone =
-      ap (records read size (length as')) (sym (append-nil (record_bytes fields as'))) ∙ read-records fields read size test k as' [] e
-
-  alone-fit : records_fit size (length as') (record_bytes fields as') ≡ true
-  alone-fit = ap (records_fit size (length as')) (sym (append-nil (record_bytes fields as'))) ∙ written-fit fields read size test k as' [] e
-
 read-pcs : (p : Pcs) (ps : List CompositionObject) → body_writable (pcs p ps) ≡ true → ReadBody kinds.Pcs (pcs p ps)
 read-pcs p ps e =
     let fs = pcs_fields p (length ps) in
-    let b = body_bytes (pcs p ps) in
-    let fit = first_fits (all_fit fs) (each placement_writable ps) e in
-    let all = rest-fits (all_fit fs) (each placement_writable ps) e in
-    let numbers = read-fields fs [] (record_bytes placement_fields ps) 0 refl fit in
-    let count : placement_count b ≡ length ps = ap (λ (n : List ℕ). get_or n 7 0) numbers in
-    let list : drop 11 b ≡ record_bytes placement_fields ps = drop_at (written fs) (record_bytes placement_fields ps) 11 (length-written fs) in
-    let long : 11 ≤ length b = rw (length-append, length-written fs) (omega arith) in
-    let fits : records_fit placement_size (placement_count b) (drop 11 b) ≡ true
-    = (λ i. records_fit placement_size (count i) (list i)) ∙ alone-fit placement_fields placement_of placement_size placement_writable placement-read ps all in
-    let placed : placements_of b ≡ ps
-    = (λ i. records placement_of placement_size (count i) (list i)) ∙ alone placement_fields placement_of placement_size placement_writable placement-read ps all in
-    let head : pcs_of b ≡ p = ap made numbers in
-    record { taken = simp (le-leb 11 (length b) long, fits); same = λ i. pcs (head i) (placed i) }
+    let numbers = numbers-again placements fs ps e in
+    let count : placement_count (body_bytes (pcs p ps)) ≡ length ps = ap (λ (n : List ℕ). get_or n 7 0) numbers in
+    let head : pcs_of (body_bytes (pcs p ps)) ≡ p = ap made numbers in
+    let list : placements_of (body_bytes (pcs p ps)) ≡ ps = records-again placements fs ps e count in
+    record {
+      taken = simp (le-leb 11 (length (body_bytes (pcs p ps))) (numbers-within placements fs ps e), fit-again placements fs ps e count);
+      same = λ i. pcs (head i) (list i);
+    }
   where
     made : List ℕ → Pcs
     made n =
@@ -82,19 +66,12 @@ read-pcs p ps e =
 read-wds : (ws : List Window) → body_writable (wds ws) ≡ true → ReadBody kinds.Wds (wds ws)
 read-wds ws e =
     let fs : List Field = (1, length ws) ∷ [] in
-    let test : Window → Bool = λ w. all_fit (window_fields w) in
-    let b = body_bytes (wds ws) in
-    let fit = first_fits (all_fit fs) (each test ws) e in
-    let all = rest-fits (all_fit fs) (each test ws) e in
-    let numbers = read-fields fs [] (record_bytes window_fields ws) 0 refl fit in
-    let count : window_count b ≡ length ws = ap (λ (n : List ℕ). get_or n 0 0) numbers in
-    let list : drop 1 b ≡ record_bytes window_fields ws = refl in
-    let long : 1 ≤ length b = omega arith in
-    let fits : records_fit window_size (window_count b) (drop 1 b) ≡ true
-    = (λ i. records_fit window_size (count i) (list i)) ∙ alone-fit window_fields window_of window_size test window-read ws all in
-    let placed : windows_of b ≡ ws
-    = (λ i. records window_of window_size (count i) (list i)) ∙ alone window_fields window_of window_size test window-read ws all in
-    record { taken = simp (le-leb 1 (length b) long, fits); same = λ i. wds (placed i) }
+    let count : window_count (body_bytes (wds ws)) ≡ length ws = ap (λ (n : List ℕ). get_or n 0 0) (numbers-again windows fs ws e) in
+    let list : windows_of (body_bytes (wds ws)) ≡ ws = records-again windows fs ws e count in
+    record {
+      taken = simp (le-leb 1 (length (body_bytes (wds ws))) (numbers-within windows fs ws e), fit-again windows fs ws e count);
+      same = λ i. wds (list i);
+    }
 
 -- entries take 5 bytes each
 entries-length : (es : List PaletteEntry) → length (record_bytes entry_fields es) ≡ 5 * length es
@@ -104,21 +81,15 @@ entries-length (a ∷ es) = rw (length-append, length-written (entry_fields a)) 
 read-pds : (p : Pds) (es : List PaletteEntry) → body_writable (pds p es) ≡ true → ReadBody kinds.Pds (pds p es)
 read-pds p es e =
     let fs = pds_fields p in
-    let test : PaletteEntry → Bool = λ a. all_fit (entry_fields a) in
     let b = body_bytes (pds p es) in
-    let fit = first_fits (all_fit fs) (each test es) e in
-    let all = rest-fits (all_fit fs) (each test es) e in
-    let numbers = read-fields fs [] (record_bytes entry_fields es) 0 refl fit in
     let size : length b ≡ 2 + 5 * length es = rw (length-append, length-written fs, entries-length es) in
     let count : entry_count b ≡ length es = omega arith in
     let whole : (length b - 2) % 5 ≡ 0 = omega arith in
-    let list : drop 2 b ≡ record_bytes entry_fields es = drop_at (written fs) (record_bytes entry_fields es) 2 (length-written fs) in
-    let placed : entries_of b ≡ es
-    = (λ i. records entry_of entry_size (count i) (list i)) ∙ alone entry_fields entry_of entry_size test entry_read es all in
-    let head : pds_of b ≡ p = ap made numbers in
+    let head : pds_of b ≡ p = ap made (numbers-again entries fs es e) in
+    let list : entries_of b ≡ es = records-again entries fs es e count in
     record {
       taken = simp (le-leb 2 (length b) (omega arith), eq-eqb ((length b - 2) % 5) 0 whole);
-      same = λ i. pds (head i) (placed i);
+      same = λ i. pds (head i) (list i);
     }
   where
     made : List ℕ → Pds

@@ -14,6 +14,7 @@ use Rattle.pgs_set.specs.Sets.{set_number, no_set, DisplaySet}
 use Rattle.pgs_reassembly.specs.Reassembly.{any_more, joined_data}
 use Rattle.pgs_rendering.specs.Images.{look_in, bitmaps_of, area_of, bitmaps_verdict, has_object, placements_verdict}
 use Rattle.pgs_rendering.specs.Rendering.{composition_of, colors_in, picture_of, placements_in, render_verdict, early_verdict, content_verdict, left_by, answer_of, Rendered}
+use Rattle.pgs_rendering.specs.declared.Shown.{Shown}
 use Rattle.pgs_excerpt.specs.Excerpt.{excerpt, at_start, moved_fragment, moved, SamePainting}
 use Rattle.pgs_excerpt.proofs.Alone.{alone}
 use Rattle.pgs_excerpt.proofs.SameObjects.{data-moved, same-objects}
@@ -64,7 +65,7 @@ module _ (n : ℕ) where
     picture-moved color = λ i. picture_of color (λ id. look-moved cs id i) d
 
     -- the promise with moved objects is the promise
-    promise-moved : (convert : Conversion) (v : Verdict) (scratch scratch' plane plane' : List ℕ) (answer : Outcome (ℕ × ℕ × ℕ))
+    promise-moved : (convert : Conversion) (v : Verdict) (scratch scratch' plane plane' : List ℕ) (answer : Outcome Shown)
         → Rendered convert v d cs scratch scratch' plane plane' answer → Rendered convert v d (map (moved n) cs) scratch scratch' plane plane' answer
     promise-moved convert v scratch scratch' plane plane' answer r =
         let early = early-moved v (length scratch) (length plane) in

@@ -4,6 +4,7 @@ use Rattle.std.specs.Prelude.{ℕ, ◌+◌, ◌≡◌, List, [], ◌∷◌, map,
 use Rattle.pgs_base.specs.Outcome.{Outcome, accepted}
 use Rattle.pgs_palette.specs.Palette.{Conversion}
 use Rattle.pgs_rendering.specs.Rendering.{Rendered}
+use Rattle.pgs_rendering.specs.declared.Shown.{Shown}
 use Rattle.pgs_reassembly.specs.Objects.{Fragment, Chain, objects_of, objects_verdict}
 use Rattle.pgs_set.specs.Sets.{set_number, set_verdict, DisplaySet, bytes_in, sets_of, sets_verdict}
 
@@ -42,6 +43,6 @@ SameObjects =
 -- painting the one set of an excerpt is painting the set in its stream: the same answer, scratch and plane, refusals included
 abbrev pub SamePainting : Type 0
 SamePainting =
-    (k : ℕ) (s : List ℕ) → set_verdict k s ≡ accepted → (convert : Conversion) (scratch scratch' plane plane' : List ℕ) (answer : Outcome (ℕ × ℕ × ℕ))
+    (k : ℕ) (s : List ℕ) → set_verdict k s ≡ accepted → (convert : Conversion) (scratch scratch' plane plane' : List ℕ) (answer : Outcome Shown)
     → Rendered convert (objects_verdict 0 (excerpt k s)) (set_number 0 (excerpt k s)) (objects_of 0 (excerpt k s)) scratch scratch' plane plane' answer
     → Rendered convert (objects_verdict k s) (set_number k s) (objects_of k s) scratch scratch' plane plane' answer

@@ -20,7 +20,7 @@ use pgs_set::open_set::{OpenSet, PlacedSet};
 use pgs_set::set::find_set;
 
 // Finds the objects of an open set, and tests them.
-fn find_in_set(set: OpenSet<'_>, table: &mut ChainTable) -> Result<(), Refusal>
+pub(crate) fn find_in_set(set: OpenSet<'_>, table: &mut ChainTable) -> Result<(), Refusal>
     ensures { let fragments = fragments_left set.entry.stream.now set.entry.from in
         Found set.entry.stream.now (fragments_verdict object_limit fragments) (chains_of fragments) table.new (verdict_of result) }
 {

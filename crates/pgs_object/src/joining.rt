@@ -4,7 +4,7 @@ ghost use Rattle.pgs_base.specs.Outcome.{accepted, laid};
 ghost use Rattle.pgs_reassembly.specs.Objects.{joined, with_id};
 ghost use Rattle.pgs_reassembly.specs.Tables.{fragments_left, joined_in, joined_rows, AllJoinable};
 
-use crate::chain::{is_ods, read_fragment};
+use crate::chain::read_fragment;
 use pgs_reassembly::ChainRow;
 use pgs_set::open_set::OpenSet;
 
@@ -15,8 +15,7 @@ fn join_chain(set: OpenSet<'_>, id: u16, out: &mut [u8])
 {
     let mut k: usize = 0;
     for segment in set.segments() {
-        if is_ods(segment.header.kind()) {
-            let f = read_fragment(set.stream, segment);
+        if let Some(f) = read_fragment(set.stream, segment) {
             if f.ods.object_id == id {
                 let stop = f.start + f.len;
                 let end = k + f.len;

@@ -83,8 +83,8 @@ fn object_record(row: ChainRow, at: usize) -> ObjectRecord
 {
     let f = row.first;
     // A first fragment has dimensions.
-    // Stays 0 by 0 and no `unwrap`: a row is a plain record, and the fact would be asked by this function, by both that call it, and by each
-    // law of the table that changes a row; `record_at` reads absent dimensions as 0 by 0 too, so that nothing has to be asked.
+    // Stays 0 by 0 and no `unwrap`: the rows of a new table are `ChainRow::default()`, which has no dimensions, so that no field of a row can
+    // promise them; `record_at` reads absent dimensions as 0 by 0 too.
     let size = f.ods.dimensions.unwrap_or(Dimensions {
         width: 0,
         height: 0,

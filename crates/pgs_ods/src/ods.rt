@@ -1,7 +1,9 @@
 // The body of an ODS: an object, or one fragment of it (01, module 3).
 ghost use Rattle.std.specs.Prelude.{◌≡◌};
 ghost use Rattle.pgs_base.specs.Outcome.{outcome, outcome_of};
+ghost use Rattle.pgs_views.specs.Fragments.{fragment_of, is_first, is_last};
 ghost use Rattle.pgs_ods.specs.OdsBody.{
+  flag_of,
   head_size,
   dimensions_of,
   ods_of,
@@ -20,18 +22,25 @@ use pgs_views::fragment_flag::FragmentFlag;
 pub struct Ods {
     pub object_id: u16,
     pub object_version_number: u8,
-    // Stays a byte beside `dimensions`: any byte may stand there, and it is kept (01)
+    // Stays a byte beside `dimensions`: a `FragmentFlag::Other` of a caller could hold the byte of a first fragment, and the byte is written
     pub last_in_sequence_flag: u8,
     pub object_data_length: u32,
     // only a first fragment has them
     pub dimensions: Option<Dimensions>,
 }
 
-// How many bytes stand before the data, by the fragment flag.
-fn head_size(flag: u8) -> usize
-    ensures { result ≡ head_size flag }
+// Whether a body is that of a first fragment, by its flag.
+fn is_first(body: &[u8]) -> bool
+    ensures { result ≡ is_first (fragment_of (flag_of body.now)) }
 {
-    if FragmentFlag::from(flag).is_first() {
+    FragmentFlag::from(u8_at(body, 3)).is_first()
+}
+
+// How many bytes stand before the data.
+fn head_size(body: &[u8]) -> usize
+    ensures { result ≡ head_size (flag_of body.now) }
+{
+    if is_first(body) {
         Ods::FIRST_SIZE
     } else {
         Ods::SIZE
@@ -45,7 +54,7 @@ pub fn check_ods(body: &[u8]) -> Result<BodyList, Refusal>
     if body.len() < Ods::SIZE {
         return Err(Refusal::FieldPastEnd);
     }
-    let start = head_size(u8_at(body, 3));
+    let start = head_size(body);
     if body.len() < start {
         return Err(Refusal::FieldPastEnd);
     }
@@ -63,11 +72,11 @@ impl Ods {
     // How many of a first fragment, which has the dimensions.
     pub const FIRST_SIZE: usize = 11;
 
-    // The dimensions, by the fragment flag.
+    // The dimensions, which a first fragment has.
     fn dimensions(body: &[u8]) -> Option<Dimensions>
         ensures { result ≡ dimensions_of body.now }
     {
-        if FragmentFlag::from(u8_at(body, 3)).is_first() {
+        if is_first(body) {
             Some(Dimensions {
                 width: u16_at(body, 7),
                 height: u16_at(body, 9),
@@ -96,5 +105,19 @@ impl Ods {
     {
         let data = check_ods(body)?;
         Ok((Ods::numbers(body), data))
+    }
+
+    // Whether the fragment opens its object.
+    pub fn is_first(self) -> bool
+        ensures { result ≡ is_first (fragment_of self.last_in_sequence_flag) }
+    {
+        FragmentFlag::from(self.last_in_sequence_flag).is_first()
+    }
+
+    // Whether the fragment closes its object.
+    pub fn is_last(self) -> bool
+        ensures { result ≡ is_last (fragment_of self.last_in_sequence_flag) }
+    {
+        FragmentFlag::from(self.last_in_sequence_flag).is_last()
     }
 }

@@ -13,7 +13,7 @@ use Rattle.pgs_pcs.specs.declared.pcs.CompositionObjectCrop.{CompositionObjectCr
 use Rattle.pgs_pcs.specs.declared.pcs.CompositionObject.{CompositionObject}
 use Rattle.pgs_plane.specs.Placing.{Image, index_at, part_of, covered, part_shown, index_shown}
 use Rattle.pgs_paint.specs.Clipping.{Visible, Exactly}
-use Rattle.pgs_paint.specs.declared.paint.Shown.{Shown}
+use Rattle.pgs_paint.specs.declared.paint.VisiblePart.{VisiblePart}
 
 -- ---- one axis
 
@@ -51,7 +51,7 @@ module _ (part : CompositionObjectCrop) (image : Image) (at_x at_y w h cols rows
     (across : Visible at_x part.horizontal_position part.width image.image_width w cols)
     (down : Visible at_y part.vertical_position part.height image.image_height h rows) where
   -- what is to be painted
-  abbrev pub clipped : Shown
+  abbrev pub clipped : VisiblePart
   clipped =
       record {
         x = at_x;

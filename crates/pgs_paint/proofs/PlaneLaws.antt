@@ -15,7 +15,7 @@ use Rattle.pgs_plane.specs.Strips.{strip, pieces}
 use Rattle.pgs_plane.specs.Placing.{Image, image_of, index_at, table_color}
 use Rattle.pgs_plane.specs.Pictures.{Layer, color_over, row_painted, painted}
 use Rattle.pgs_paint.specs.Clipping.{Exactly, Bounds}
-use Rattle.pgs_paint.specs.declared.paint.Shown.{Shown}
+use Rattle.pgs_paint.specs.declared.paint.VisiblePart.{VisiblePart}
 use Rattle.pgs_paint.proofs.RowLaws.{colors}
 use Rattle.pgs_plane.proofs.StripLaws.{pieces-add, pieces_kept, pieces-new}
 
@@ -150,13 +150,13 @@ index-lent iw ih bitmap j x c k h =
     ∙ sym (get_or-drop (iw * j) bitmap (x + k) 0)
 
 -- the places of the row j of what is shown
-pub record Room (s : Shown) (iw ih w h j : ℕ) : Type 0 where
+pub record Room (s : VisiblePart) (iw ih w h j : ℕ) : Type 0 where
   pub across : s.x + s.columns ≤ w
   pub down : s.y + j < h
   pub source : iw * (s.from_y + j) + s.from_x + s.columns ≤ iw * ih
   pub target : 4 * w * (s.y + j) + 4 * s.x + 4 * s.columns ≤ 4 * w * h
 
-pub room : {s : Shown} {iw ih w h j : ℕ} → Bounds s iw ih w h → 0 < s.columns → j < s.rows → Room s iw ih w h j
+pub room : {s : VisiblePart} {iw ih w h j : ℕ} → Bounds s iw ih w h → 0 < s.columns → j < s.rows → Room s iw ih w h j
 room {s} {iw} {ih} {w} {h} {j} b some more =
     let c = b.columns_inside some in
     let r = b.rows_inside (omega arith) in
@@ -167,7 +167,7 @@ room {s} {iw} {ih} {w} {h} {j} b some more =
       target = omega (arith, row_inside (4 * w) h (s.y + j) (4 * s.x + 4 * s.columns) (omega (arith, r.1)) (omega (arith, c.1)));
     }
 
-module _ (t bitmap l now new : List ℕ) (s : Shown) (iw ih w h j : ℕ) (r : Room s iw ih w h j) where
+module _ (t bitmap l now new : List ℕ) (s : VisiblePart) (iw ih w h j : ℕ) (r : Room s iw ih w h j) where
   abbrev from : ℕ
   from = iw * (s.from_y + j) + s.from_x
 
@@ -197,7 +197,7 @@ module _ (t bitmap l now new : List ℕ) (s : Shown) (iw ih w h j : ℕ) (r : Ro
       so
       ∙ ap (λ (n : ℕ). first_rows (table_color t) layer w n l) {x = s.y + j + 1} {y = s.y + (j + 1)} (omega arith)
 
-module _ (color : ℕ → List ℕ) (layer : Layer) (s : Shown) (image : Image) (w h : ℕ) (ex : Exactly layer s image w h) (l : List ℕ) where
+module _ (color : ℕ → List ℕ) (layer : Layer) (s : VisiblePart) (image : Image) (w h : ℕ) (ex : Exactly layer s image w h) (l : List ℕ) where
   -- above the first row nothing is covered
   pub rows-begin : l ≡ first_rows color layer w (s.y + 0) l
   rows-begin = sym (nothing-covered color layer w (s.y + 0) l (λ x y high below. ex.above x y (omega arith)))

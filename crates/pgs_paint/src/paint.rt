@@ -42,7 +42,7 @@ impl Axis {
 
 // The pixels of a placement that are on the plane: where they begin there and in the object, and how many columns and rows they have.
 #[derive(Clone, Copy, Debug, PartialEq, Eq)]
-struct Shown {
+struct VisiblePart {
     x: u16,
     y: u16,
     from_x: u16,
@@ -64,7 +64,7 @@ fn part_of(cropping: Option<CompositionObjectCrop>, size: Dimensions) -> Composi
 }
 
 // The pixels of a placement of an object that are on the plane.
-fn clip(placement: CompositionObject, object: Dimensions, plane: Dimensions) -> Shown
+fn clip(placement: CompositionObject, object: Dimensions, plane: Dimensions) -> VisiblePart
     ensures bounds { Bounds result object.width object.height plane.width plane.height }
     ensures by_index { Clipped placement object plane result }
 {
@@ -83,7 +83,7 @@ fn clip(placement: CompositionObject, object: Dimensions, plane: Dimensions) -> 
         size: object.height,
         limit: plane.height,
     };
-    Shown {
+    VisiblePart {
         x: across.at,
         y: down.at,
         from_x: across.from,
@@ -119,14 +119,20 @@ fn place(width: u16, x: u16, y: u16, j: usize) -> usize
 
 // Paints the pixels of a placement that are on the plane, a row at a time.
 // Stays by index, as `paint_row`.
-fn paint_rows(shown: Shown, image: Image<'_>, table: Table<'_>, size: Dimensions, plane: &mut [u8])
-    requires { Paintable shown image.size image.indices.now size plane.old }
-    ensures { RowsPainted shown image.entry.size image.entry.indices.now table.entry.bytes.now size plane.old plane.new }
+fn paint_rows(
+    visible: VisiblePart,
+    image: Image<'_>,
+    table: Table<'_>,
+    size: Dimensions,
+    plane: &mut [u8],
+)
+    requires { Paintable visible image.size image.indices.now size plane.old }
+    ensures { RowsPainted visible image.entry.size image.entry.indices.now table.entry.bytes.now size plane.old plane.new }
 {
-    let columns = usize::from(shown.columns);
-    for j in 0..usize::from(shown.rows) {
-        let from = place(image.size.width, shown.from_x, shown.from_y, j);
-        let to = 4 * place(size.width, shown.x, shown.y, j);
+    let columns = usize::from(visible.columns);
+    for j in 0..usize::from(visible.rows) {
+        let from = place(image.size.width, visible.from_x, visible.from_y, j);
+        let to = 4 * place(size.width, visible.x, visible.y, j);
         paint_row(
             &image.indices[from..from + columns],
             table,
@@ -153,10 +159,10 @@ pub fn paint_placement(
     if image.indices.len() < image.size.area() {
         return Err(Refusal::BufferTooSmall);
     }
-    let shown = clip(placement, image.size, size);
-    if shown.columns == 0 || shown.rows == 0 {
+    let visible = clip(placement, image.size, size);
+    if visible.columns == 0 || visible.rows == 0 {
         return Ok(());
     }
-    paint_rows(shown, image, table, size, plane);
+    paint_rows(visible, image, table, size, plane);
     Ok(())
 }

@@ -10,12 +10,11 @@ use Rattle.pgs_base.specs.Bytes.{num}
 use Rattle.pgs_base.specs.Outcome.{accepted, unless}
 use Rattle.pgs_base.proofs.Outcomes.{first_holds, second_holds, holds}
 use Rattle.pgs_records.specs.Records.{records_fit}
-use Rattle.pgs_pcs.specs.PcsBody.{cropping_of, placement_of, placement_size, crop_cells, crop_from}
+use Rattle.pgs_pcs.specs.PcsBody.{cropping_of, placement_size, crop_cells, crop_from}
 use Rattle.pgs_pcs.specs.PcsBody.{placement_row, placements_of, placement_rows, placement_count}
 use Rattle.pgs_pcs.specs.PcsBody.{pcs_verdict}
 use Rattle.pgs_pcs.specs.declared.pcs.CompositionObjectCrop.{CompositionObjectCrop}
 use Rattle.std.specs.Prelude.{Option, None, Some}
-use Rattle.pgs_records.proofs.RecordLaws.{rows-length}
 
 -- a crop is told by its cells
 pub crop-back : (a b c d e : ℕ) (k : Option CompositionObjectCrop) → crop_from (a ∷ b ∷ c ∷ d ∷ e ∷ crop_cells k) ≡ k
@@ -50,7 +49,3 @@ module _ (b : List ℕ) where
   pub placement-list : placement_rows b ≡ map placement_row (placements_of b)
   unfolding placement_rows
   placement-list = refl
-
-  pub placement-rows : length (placement_rows b) ≡ placement_count b
-  unfolding placement_rows
-  placement-rows = rows-length placement_row placement_of placement_size (placement_count b) (drop 11 b)

@@ -47,6 +47,7 @@ pub struct Pcs {
     pub height: u16,
     pub frame_rate: u8,
     pub composition_number: u16,
+    // Stays a byte, as the flag: a `CompositionState::Other` of a caller could hold the byte of a known state, and the byte is written
     pub composition_state: u8,
     pub palette_update_flag: u8,
     pub palette_id: u8,
@@ -96,6 +97,8 @@ impl ListRecord for CompositionObject {
         }
     }
 
+    // In line, so that a placement goes into its row at once, and not through memory.
+    #[inline(always)]
     fn read(l: &[u8]) -> CompositionObject {
         CompositionObject {
             object_id: u16_at(l, 0),

@@ -3,8 +3,7 @@ use mathlib.Core.Path.{◌≡◌, refl, sym, ap, ◌∙◌}
 use mathlib.Core.List.{List, [], ◌∷◌, map}
 use Prim.Native.Nat.{ℕ, ◌+◌}
 use lib.ListN.{drop}
-use Rattle.pgs_base.specs.Outcome.{Verdict, accepted, refused, gives, refuses, outcome_of, and_then}
-use Rattle.pgs_base.proofs.Outcomes.{gives_as, refuses-as}
+use Rattle.pgs_base.specs.Outcome.{Verdict, accepted, and_then}
 use Rattle.pgs_segment.specs.OneSegment.{used_by}
 use Rattle.pgs_reassembly.proofs.ObjectLaws.{begin-fragments}
 use Rattle.pgs_reassembly.specs.Objects.{Chain, fragments_verdict, object_limit, each_verdict, all_objects_verdict}
@@ -12,7 +11,7 @@ use Rattle.pgs_reassembly.specs.Tables.{Found, fragments_left}
 use Rattle.pgs_reassembly.specs.declared.ChainRow.{ChainRow}
 use Rattle.pgs_set.proofs.RecordLaws.{AllBegin, records-begin, begins-at, by-sets, stream-stands}
 use Rattle.pgs_set.specs.Records.{set_records}
-use Rattle.pgs_set.specs.Sets.{DisplaySet, set_record, sets_from, sets_of, set_count, sets_verdict}
+use Rattle.pgs_set.specs.Sets.{DisplaySet, set_record, sets_from, sets_of, sets_verdict}
 use Rattle.pgs_set.specs.Walks.{pieces_at, Ends, SetBegins, set_at}
 use Rattle.pgs_set.specs.declared.set.SetRecord.{SetRecord}
 
@@ -43,14 +42,7 @@ module _ (s : List ℕ) where
           (ap (fragments_verdict object_limit) (sym (begin-fragments s b)))
 
   module _ {xs : List SetRecord} (c : Testing s xs) where
-    -- no set is left
-    pub tests-all : xs ≡ [] → accepted ≡ each_verdict object_limit (sets_of s)
-    tests-all e = ap (records_verdict s) (sym e) ∙ c.verdict
-
     module _ {x : SetRecord} {left : List SetRecord} (here : xs ≡ x ∷ left) where
-      pub tests-begin : SetBegins s x.place
-      tests-begin = (rw here at c.begin).0
-
       module _ {t : List ℕ} {from : ℕ} (es : t ≡ s) (ef : from ≡ x.place + used_by (drop x.place s)) {cs : List Chain} {now : List ChainRow} {answer : Verdict}
           (g : Found t (fragments_verdict object_limit (fragments_left t from)) cs now answer) where
         decides : and_then answer (records_verdict s left) ≡ each_verdict object_limit (sets_of s)
@@ -59,24 +51,8 @@ module _ (s : List ℕ) where
             ∙ ap (records_verdict s) (sym here)
             ∙ c.verdict
 
-        pub tests-refusal : {k : ℕ} → answer ≡ refused k → refused k ≡ each_verdict object_limit (sets_of s)
-        tests-refusal q = ap (λ (v : Verdict). and_then v (records_verdict s left)) (sym q) ∙ decides
-
-        pub tests-on : answer ≡ accepted → Testing s left
-        tests-on q =
-            record { begin = (rw here at c.begin).1; verdict = ap (λ (v : Verdict). and_then v (records_verdict s left)) (sym q) ∙ decides }
-
 -- the stream is refused, or its sets are tested
 module _ (s : List ℕ) where
-  pub sets-refused : {k : ℕ} → sets_verdict s ≡ refused k → refuses k ≡ outcome_of (all_objects_verdict s) (set_count s)
-  sets-refused e = refuses-as (set_count s) (ap (λ (v : Verdict). and_then v (each_verdict object_limit (sets_of s))) e)
-
   module _ {t : List ℕ} (same : t ≡ s) (a : sets_verdict t ≡ accepted) where
     tested : all_objects_verdict s ≡ each_verdict object_limit (sets_of t)
     tested = ap all_objects_verdict (sym same) ∙ ap (λ (v : Verdict). and_then v (each_verdict object_limit (sets_of t))) a
-
-    pub each-refused : {k : ℕ} → refused k ≡ each_verdict object_limit (sets_of t) → refuses k ≡ outcome_of (all_objects_verdict s) (set_count s)
-    each-refused e = refuses-as (set_count s) (tested ∙ sym e)
-
-    pub each-tested : accepted ≡ each_verdict object_limit (sets_of t) → {n : ℕ} → n ≡ set_count t → gives n ≡ outcome_of (all_objects_verdict s) (set_count s)
-    each-tested e q = gives_as (tested ∙ sym e) (q ∙ ap set_count same)

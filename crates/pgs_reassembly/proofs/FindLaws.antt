@@ -1,48 +1,54 @@
 -- The walk that finds the chains of a set. Assumes nothing.
 use mathlib.Core.Path.{◌≡◌, refl, sym, ap, ◌∙◌}
-use mathlib.Core.Bool.{Bool, true}
+use mathlib.Core.Bool.{Bool, true, false}
 use mathlib.Core.List.{List, [], ◌∷◌, map}
 use Prim.Native.Nat.{ℕ, ◌+◌, ◌≤◌}
 use native.Mathlib.Omega.{arith}
+use Rattle.std.specs.Prelude.{Option, None, Some}
 use lib.ListN.{length, drop, length-append}
-use Rattle.pgs_base.specs.Outcome.{Verdict, accepted, refused, and_then}
+use Rattle.pgs_base.specs.Outcome.{Verdict, accepted, refused, and_then, pick}
 use Rattle.pgs_base.proofs.Outcomes.{not-both}
-use Rattle.pgs_segment.specs.OneSegment.{segment_type, used_by}
-use Rattle.pgs_stream.specs.Stream.{step_verdict}
+use Rattle.pgs_segment.specs.OneSegment.{segment_type}
 use Rattle.pgs_set.proofs.Choices.{pick_first}
-use Rattle.pgs_set.proofs.SegmentLaws.{Stands, AllStand, segments-stand, stands-kind, stands-end}
+use Rattle.pgs_set.proofs.SegmentLaws.{Stands, AllStand, segments-stand, stands-kind}
 use Rattle.pgs_set.specs.Segments.{set_segments}
 use Rattle.pgs_set.specs.Walks.{InSet}
 use Rattle.pgs_stream.specs.declared.segments.PlacedSegment.{PlacedSegment}
-use Rattle.pgs_views.specs.Kinds.{type_of}
-use Rattle.pgs_views.specs.declared.segment_type.SegmentType.{SegmentType}
 use Rattle.pgs_reassembly.proofs.ChainLaws.{taking-all, rows-all, total-after}
 use Rattle.pgs_reassembly.proofs.FragmentLaws.{in-segments, bytes-left}
 use Rattle.pgs_reassembly.specs.Objects.{Fragment, is_ods, chains_of, joined, object_limit, verdict_after}
-use Rattle.pgs_reassembly.specs.Tables.{fragment_in, fragments_in, fragments_left, fragment_numbers, chain_row, take_verdict, rows_after}
+use Rattle.pgs_reassembly.specs.Tables.{fragment_in, fragment_read, holds_fragment, fragments_in, fragments_left, fragment_numbers, chain_row, take_verdict, rows_after}
 use Rattle.pgs_reassembly.specs.Tables.{taking_verdict, rows_with, total, Leaves}
 use Rattle.pgs_reassembly.specs.declared.ChainRow.{ChainRow}
 use Rattle.pgs_reassembly.specs.declared.FragmentNumbers.{FragmentNumbers}
 
--- an ODS that stands in the stream can be read
-module _ {s : List ℕ} {x : PlacedSegment} (st : Stands s x) where
-  pub its-step : step_verdict (drop x.at s) ≡ accepted
-  its-step = st.step
+-- a segment of those left was read: it stands in the stream and is this fragment, which comes before those in the segments behind it
+pub record Reads (s : List ℕ) (xs : List PlacedSegment) (x : PlacedSegment) (left : List PlacedSegment) (f : FragmentNumbers) : Type 0 where
+  pub itself : Stands s x
+  pub stand : AllStand s left
+  pub kind : is_ods (segment_type (drop x.at s)) ≡ true
+  pub numbers : f ≡ fragment_numbers (fragment_in s x)
+  pub next : fragments_in s xs ≡ fragment_in s x ∷ fragments_in s left
 
-  pub its-end : x.end ≡ x.at + used_by (drop x.at s)
-  its-end = stands-end st
+module _ (s : List ℕ) {xs : List PlacedSegment} (all : AllStand s xs) {x : PlacedSegment} {left : List PlacedSegment} (here : xs ≡ x ∷ left) where
+  pub stand-here : AllStand s (x ∷ left)
+  stand-here = rw here at all
 
-  pub its-ods : {t : SegmentType} {b : Bool} → t ≡ type_of x.header.segment_type → b ≡ is_ods t → b ≡ true → is_ods (segment_type (drop x.at s)) ≡ true
-  its-ods e q z = sym (ap is_ods (e ∙ stands-kind st)) ∙ sym q ∙ z
-
--- whether a segment is one: the fragments in segments, by the first of them
-module _ (s : List ℕ) {x : PlacedSegment} {xs left : List PlacedSegment} (here : xs ≡ x ∷ left)
-    {t : SegmentType} {b : Bool} (e : t ≡ type_of x.header.segment_type) (q : b ≡ is_ods t) where
-  its-test : is_ods (type_of x.header.segment_type) ≡ b
-  its-test = sym (q ∙ ap is_ods e)
-
-  pub in-next : b ≡ true → fragments_in s xs ≡ fragment_in s x ∷ fragments_in s left
-  in-next z = ap (fragments_in s) here ∙ pick_first _ _ (its-test ∙ z)
+  module _ {o : Option FragmentNumbers} (e : o ≡ fragment_read s x) where
+    -- it is one
+    pub reads-one : {f : FragmentNumbers} → o ≡ Some f → Reads s xs x left f
+    reads-one {f} z = go (holds_fragment x) refl (sym z ∙ e)
+      where
+        go : (b : Bool) → holds_fragment x ≡ b → Some f ≡ pick b (Some (fragment_numbers (fragment_in s x))) None → Reads s xs x left f
+        go true h q =
+            record {
+              itself = stand-here.0;
+              stand = stand-here.1;
+              kind = sym (ap is_ods (stands-kind stand-here.0)) ∙ h;
+              numbers = ap (λ (y : Option FragmentNumbers). elim y [ None ↦ f | Some g ↦ g ]) q;
+              next = ap (fragments_in s) here ∙ pick_first _ _ h;
+            }
+        go false h q = cc
 
 -- the fragments in the segments that are left go into these rows, as all go into none
 pub record Finding (s : List ℕ) (from : ℕ) (rows : List ChainRow) (left : List PlacedSegment) : Type 0 where
@@ -76,55 +82,51 @@ module _ (s : List ℕ) (from : ℕ) where
               ∙ rows-all (fragments_left s from) (sym done);
         }
 
-    module _ {x : PlacedSegment} {left : List PlacedSegment} (here : xs ≡ x ∷ left) where
-      pub its-stand : AllStand s (x ∷ left)
-      its-stand = rw here at c.stand
+    -- a segment is no fragment
+    pub finds-none : {left : List PlacedSegment} → AllStand s left → fragments_in s xs ≡ fragments_in s left → Finding s from rows left
+    finds-none stand same = record { stand = stand; verdict = rw same at c.verdict; whole = rw same at c.whole; small = rw same at c.small }
 
-      module _ {t : SegmentType} {b : Bool} (e : t ≡ type_of x.header.segment_type) (q : b ≡ is_ods t) where
-        module _ (z : b ≡ true) {f : FragmentNumbers} (ef : f ≡ fragment_numbers (fragment_in s x)) where
-          next : fragments_in s xs ≡ fragment_in s x ∷ fragments_in s left
-          next = in-next s here e q z
+    module _ {x : PlacedSegment} {left : List PlacedSegment} {f : FragmentNumbers} (r : Reads s xs x left f) where
+      -- the lengths fit
+      pub finds-fit : total rows + f.len + length (joined (fragments_in s left)) ≤ length s
+      finds-fit =
+          omega (
+            arith,
+            c.small,
+            ap (λ (fs : List Fragment). length (joined fs)) r.next,
+            length-append (fragment_in s x).bytes (joined (fragments_in s left)),
+            ap (λ (y : FragmentNumbers). y.len) r.numbers,
+          )
 
-          -- the lengths fit
-          pub finds-fit : total rows + f.len + length (joined (fragments_in s left)) ≤ length s
-          finds-fit =
-              omega (
-                arith,
-                c.small,
-                ap (λ (fs : List Fragment). length (joined fs)) next,
-                length-append (fragment_in s x).bytes (joined (fragments_in s left)),
-                ap (λ (y : FragmentNumbers). y.len) ef,
-              )
+      module _ {now : List ChainRow} {answer : Verdict} (w : Leaves (take_verdict rows f) (rows_after rows f) now answer) where
+        decides : and_then answer (taking_verdict (rows_after rows f) (fragments_in s left)) ≡ verdict_after object_limit [] (fragments_left s from)
+        decides =
+            (λ j. and_then ((w.answered ∙ ap (take_verdict rows) r.numbers) j) (taking_verdict (rows_after rows (r.numbers j)) (fragments_in s left)))
+            ∙ ap (taking_verdict rows) (sym r.next)
+            ∙ c.verdict
+            ∙ taking-all (fragments_left s from)
 
-          module _ {now : List ChainRow} {answer : Verdict} (w : Leaves (take_verdict rows f) (rows_after rows f) now answer) where
-            decides : and_then answer (taking_verdict (rows_after rows f) (fragments_in s left)) ≡ verdict_after object_limit [] (fragments_left s from)
-            decides =
-                (λ j. and_then ((w.answered ∙ ap (take_verdict rows) ef) j) (taking_verdict (rows_after rows (ef j)) (fragments_in s left)))
-                ∙ ap (taking_verdict rows) (sym next)
-                ∙ c.verdict
-                ∙ taking-all (fragments_left s from)
+        -- a fragment that is refused decides
+        pub finds-refusal : {k : ℕ} {any : List ChainRow} → answer ≡ refused k
+            → Leaves (verdict_after object_limit [] (fragments_left s from)) (map chain_row (chains_of (fragments_left s from))) any (refused k)
+        finds-refusal {k} {any} a =
+            record {
+              answered = ap (λ (v : Verdict). and_then v (taking_verdict (rows_after rows f) (fragments_in s left))) (sym a) ∙ decides;
+              left = λ y. absurd (not-both y refl);
+            }
 
-            -- a fragment that is refused decides
-            pub finds-refusal : {k : ℕ} {any : List ChainRow} → answer ≡ refused k
-                → Leaves (verdict_after object_limit [] (fragments_left s from)) (map chain_row (chains_of (fragments_left s from))) any (refused k)
-            finds-refusal {k} {any} a =
-                record {
-                  answered = ap (λ (v : Verdict). and_then v (taking_verdict (rows_after rows f) (fragments_in s left))) (sym a) ∙ decides;
-                  left = λ y. absurd (not-both y refl);
-                }
-
-            -- a fragment is taken
-            pub finds-more : answer ≡ accepted → Finding s from now left
-            finds-more a =
-                record {
-                  stand = its-stand.1;
-                  verdict = ap (λ (l : List ChainRow). taking_verdict l (fragments_in s left)) (w.left a)
-                      ∙ ap (λ (v : Verdict). and_then v (taking_verdict (rows_after rows f) (fragments_in s left))) (sym a)
-                      ∙ decides
-                      ∙ sym (taking-all (fragments_left s from));
-                  whole = ap (λ (l : List ChainRow). rows_with l (fragments_in s left)) (w.left a)
-                      ∙ (λ j. rows_with (rows_after rows (ef j)) (fragments_in s left))
-                      ∙ ap (rows_with rows) (sym next)
-                      ∙ c.whole;
-                  small = rw (w.left a) (omega (arith, total-after rows f, finds-fit));
-                }
+        -- a fragment is taken
+        pub finds-more : answer ≡ accepted → Finding s from now left
+        finds-more a =
+            record {
+              stand = r.stand;
+              verdict = ap (λ (l : List ChainRow). taking_verdict l (fragments_in s left)) (w.left a)
+                  ∙ ap (λ (v : Verdict). and_then v (taking_verdict (rows_after rows f) (fragments_in s left))) (sym a)
+                  ∙ decides
+                  ∙ sym (taking-all (fragments_left s from));
+              whole = ap (λ (l : List ChainRow). rows_with l (fragments_in s left)) (w.left a)
+                  ∙ (λ j. rows_with (rows_after rows (r.numbers j)) (fragments_in s left))
+                  ∙ ap (rows_with rows) (sym r.next)
+                  ∙ c.whole;
+              small = rw (w.left a) (omega (arith, total-after rows f, finds-fit));
+            }

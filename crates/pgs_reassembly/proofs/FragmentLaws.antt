@@ -31,7 +31,7 @@ use Rattle.pgs_stream.specs.Segments.{placed}
 use Rattle.pgs_set.specs.Segments.{set_segments}
 use Rattle.pgs_stream.specs.declared.segments.PlacedSegment.{PlacedSegment}
 use Rattle.pgs_set.proofs.SetLaws.{inside-here}
-use Rattle.pgs_set.proofs.SegmentLaws.{by-segments}
+use Rattle.pgs_set.proofs.SegmentLaws.{Stands, by-segments, stands-end}
 
 ods-only : (t : SegmentType) → is_ods t ≡ true → t ≡ Ods
 ods-only Ods e = refl
@@ -40,6 +40,10 @@ ods-only Wds e = cc
 ods-only Pds e = cc
 ods-only End e = cc
 ods-only (Other v) e = cc
+
+-- what reading a body answers
+abbrev pub read_as : List ℕ → Outcome (declared-ods.Ods × BodyList)
+read_as b = outcome_of (ods_verdict b) (ods_of b, ods_list b)
 
 -- an accepted ODS segment
 module _ (l : List ℕ) (ok : step_verdict l ≡ accepted) (kind : is_ods (segment_type l) ≡ true) where
@@ -54,38 +58,26 @@ module _ (l : List ℕ) (ok : step_verdict l ≡ accepted) (kind : is_ods (segme
       omega
       (arith, leb-true (head_size (flag_of (body_at l))) (length (body_at l)) (holds 4 _ (second_holds (unless 4 (leb 7 (length (body_at l)))) _ body-accepted)), length-take (size_of l) (drop 13 l))
 
+  -- reading its body cannot be refused
+  pub never-refused : {k : ℕ} → refuses k ≡ read_as (body_at l) → ⊥
+  never-refused q = not-both body-accepted (turned_down (ods_verdict (body_at l)) (ods_of (body_at l), ods_list (body_at l)) q)
+
+-- the numbers that were read, and the part of the data
+pub numbers-read : (b : List ℕ) {o : declared-ods.Ods} {d : BodyList} → ◌≡◌ {A = Outcome (declared-ods.Ods × BodyList)} (gives (o, d)) (read_as b)
+    → (o ≡ ods_of b) × (d ≡ ods_list b)
+numbers-read b q =
+    let p = gave-value (ods_verdict b) (ods_of b, ods_list b) q in
+    (ap (λ (x : declared-ods.Ods × BodyList). x.0) p, ap (λ (x : declared-ods.Ods × BodyList). x.1) p)
+
 -- the body as the code lends it
 pub lent-body : (s : List ℕ) (at : ℕ) {used : ℕ} → used ≡ used_by (drop at s) → take (at + used - (at + 13)) (drop (at + 13) s) ≡ body_at (drop at s)
 lent-body s at {used} e =
     let size : at + used - (at + 13) ≡ size_of (drop at s) = omega arith in
     (λ j. take (size j) (sym (drop-drop 13 at s) j))
 
--- what reading a body answers
-abbrev pub read_as : List ℕ → Outcome (declared-ods.Ods × BodyList)
-read_as b = outcome_of (ods_verdict b) (ods_of b, ods_list b)
-
--- over the body of a segment, which ends where the segment does
-module _ (s : List ℕ) (at : ℕ) {end : ℕ} (e : end ≡ at + used_by (drop at s)) where
-  lent-answer : {o : Outcome (declared-ods.Ods × BodyList)}
-      → o ≡ read_as (take (end - (at + 13)) (drop (at + 13) s))
-      → o ≡ read_as (body_at (drop at s))
-  lent-answer q = q ∙ ap (λ (n : ℕ). read_as (take (n - (at + 13)) (drop (at + 13) s))) e ∙ ap read_as (lent-body s at refl)
-
-  -- the numbers and the part of the data
-  pub numbers-read : {o : declared-ods.Ods} {d : BodyList}
-      → ◌≡◌ {A = Outcome (declared-ods.Ods × BodyList)} (gives (o, d)) (read_as (take (end - (at + 13)) (drop (at + 13) s)))
-      → (o ≡ ods_of (body_at (drop at s))) × (d ≡ ods_list (body_at (drop at s)))
-  numbers-read q =
-      let p = gave-value (ods_verdict (body_at (drop at s))) (ods_of (body_at (drop at s)), ods_list (body_at (drop at s))) (lent-answer q) in
-      (ap (λ (x : declared-ods.Ods × BodyList). x.0) p, ap (λ (x : declared-ods.Ods × BodyList). x.1) p)
-
-  -- it cannot be refused
-  pub never-refused : {k : ℕ} → step_verdict (drop at s) ≡ accepted → is_ods (segment_type (drop at s)) ≡ true
-      → refuses k ≡ read_as (take (end - (at + 13)) (drop (at + 13) s))
-      → ⊥
-  never-refused {k} ok kind q =
-      not-both (body-accepted (drop at s) ok kind)
-      (turned_down (ods_verdict (body_at (drop at s))) (ods_of (body_at (drop at s)), ods_list (body_at (drop at s))) (lent-answer q))
+-- of a segment that stands in the stream
+pub body-lent : {s : List ℕ} {x : PlacedSegment} → Stands s x → take (x.end - (x.at + 13)) (drop (x.at + 13) s) ≡ body_at (drop x.at s)
+body-lent {s} {x} st = rw (stands-end st) (lent-body s x.at refl)
 
 -- the numbers that were read are the fragment's
 pub head_read : (at : ℕ) (l : List ℕ) {o : declared-ods.Ods} {d : BodyList} → (o ≡ ods_of (body_at l)) × (d ≡ ods_list (body_at l))

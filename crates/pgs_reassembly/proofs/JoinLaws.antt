@@ -1,27 +1,23 @@
 -- The walks that join the data of one chain, and of all that are copied. Assumes nothing.
 use mathlib.Core.Path.{◌≡◌, refl, sym, ap, subst, ◌∙◌}
-use mathlib.Core.Bool.{Bool, true, false}
+use mathlib.Core.Bool.{true, false}
 use mathlib.Core.List.{List, [], ◌∷◌, ◌++◌, append-nil}
 use Prim.Native.Nat.{ℕ, ◌+◌, ◌-◌, ◌≤◌, ◌<◌}
 use native.Mathlib.Omega.{arith}
-use borrow.Author.Tests.{eq-eqb, ne_eqb}
-use lib.ListN.{length, take, drop, get_or, length-append, length-take, length-drop, drop_of_length-le}
+use borrow.Author.Tests.{eq-eqb}
+use lib.ListN.{length, take, drop, get_or, length-append, drop_of_length-le}
 use lib.Seq.{length-take-le}
-use Rattle.pgs_base.specs.Outcome.{accepted, laid}
 use Rattle.pgs_base.proofs.Front.{Front, begins, parted, filled}
-use Rattle.pgs_segment.specs.OneSegment.{segment_type}
-use Rattle.pgs_views.specs.Kinds.{type_of}
-use Rattle.pgs_views.specs.declared.segment_type.SegmentType.{SegmentType}
 use Rattle.pgs_set.proofs.Choices.{pick_first, pick_second}
 use Rattle.pgs_set.proofs.SegmentLaws.{AllStand, segments-stand}
 use Rattle.pgs_set.specs.Segments.{set_segments}
 use Rattle.pgs_set.specs.Walks.{InSet}
 use Rattle.pgs_stream.specs.declared.segments.PlacedSegment.{PlacedSegment}
-use Rattle.pgs_reassembly.proofs.FindLaws.{its-ods, in-next}
+use Rattle.pgs_reassembly.proofs.FindLaws.{Reads}
 use Rattle.pgs_reassembly.proofs.FragmentLaws.{in-segments, data-within, data-part}
 use Rattle.pgs_reassembly.proofs.Lists.{no_row, drop-next}
-use Rattle.pgs_reassembly.specs.Objects.{Fragment, is_ods, id_of, with_id, joined}
-use Rattle.pgs_reassembly.specs.Tables.{fragment_in, fragments_in, fragments_left, fragment_numbers, joined_in, row_data, joined_rows, AllJoinable}
+use Rattle.pgs_reassembly.specs.Objects.{Fragment, id_of, with_id, joined}
+use Rattle.pgs_reassembly.specs.Tables.{fragment_in, fragments_in, fragments_left, joined_in, row_data, row_bytes, joined_rows, AllJoinable}
 use Rattle.pgs_reassembly.specs.declared.ChainRow.{ChainRow}
 use Rattle.pgs_reassembly.specs.declared.FragmentNumbers.{FragmentNumbers}
 
@@ -74,73 +70,53 @@ module _ (s : List ℕ) (from id : ℕ) where
         none [] e = refl
         none (x ∷ l) e = absurd (omega arith)
 
-    -- so it is where no segment is left
-    pub joined-end : xs ≡ [] → now ≡ joined (with_id id (fragments_left s from))
-    joined-end e = joined-all (omega (arith, fills, ap (λ (l : List PlacedSegment). length (joined (with_id id (fragments_in s l)))) e))
+    passes : {left : List PlacedSegment} → AllStand s left → joined (with_id id (fragments_in s xs)) ≡ joined (with_id id (fragments_in s left))
+        → Joining s from id start now left k
+    passes stand same = record { stand = stand; room = c.room; front = rw same at c.front }
 
-    module _ {x : PlacedSegment} {left : List PlacedSegment} (here : xs ≡ x ∷ left) where
-      pub joins-stand : AllStand s (x ∷ left)
-      joins-stand = rw here at c.stand
+    module _ {x : PlacedSegment} {left : List PlacedSegment} {f : FragmentNumbers} (r : Reads s xs x left f) where
+      next : with_id id (fragments_in s xs) ≡ with_id id (fragment_in s x ∷ fragments_in s left)
+      next = ap (with_id id) r.next
 
-      passes : joined (with_id id (fragments_in s xs)) ≡ joined (with_id id (fragments_in s left)) → Joining s from id start now left k
-      passes r = record { stand = joins-stand.1; room = c.room; front = rw r at c.front }
+      module _ (same : f.ods.object_id ≡ id) where
+        rest : joined (with_id id (fragments_in s xs)) ≡ (fragment_in s x).bytes ++ joined (with_id id (fragments_in s left))
+        rest =
+            ap joined next
+            ∙ ap joined (pick_first _ _ (eq-eqb (id_of (fragment_in s x)) id (sym (ap (λ (y : FragmentNumbers). y.ods.object_id) r.numbers) ∙ same)))
 
-      module _ {t : SegmentType} {b : Bool} (e : t ≡ type_of x.header.segment_type) (q : b ≡ is_ods t) where
-        module _ (z : b ≡ true) {f : FragmentNumbers} (ef : f ≡ fragment_numbers (fragment_in s x)) where
-          next : with_id id (fragments_in s xs) ≡ with_id id (fragment_in s x ∷ fragments_in s left)
-          next = ap (with_id id) (in-next s here e q z)
+        its-length : f.len ≡ length (fragment_in s x).bytes
+        its-length = ap (λ (y : FragmentNumbers). y.len) r.numbers
 
-          -- a fragment of another object
-          pub joins-other : (f.ods.object_id ≡ id → ⊥) → Joining s from id start now left k
-          joins-other n =
-              passes
-              (ap joined next
-              ∙ ap joined
-              (pick_second _ _
-              (ne_eqb (id_of (fragment_in s x)) id (λ (y : id_of (fragment_in s x) ≡ id). n (ap (λ (g : FragmentNumbers). g.ods.object_id) ef ∙ y)))))
+        -- its data lies within the stream, and fits the part
+        pub joins-from : f.start + f.len ≤ length s
+        joins-from = omega (arith, ap (λ (y : FragmentNumbers). y.start) r.numbers, its-length, data-within s x.at r.itself.step r.kind)
 
-          module _ (same : f.ods.object_id ≡ id) where
-            rest : joined (with_id id (fragments_in s xs)) ≡ (fragment_in s x).bytes ++ joined (with_id id (fragments_in s left))
-            rest =
-                ap joined next
-                ∙ ap joined (pick_first _ _ (eq-eqb (id_of (fragment_in s x)) id (sym (ap (λ (y : FragmentNumbers). y.ods.object_id) ef) ∙ same)))
+        pub joins-to : k + f.len ≤ length now
+        joins-to =
+            omega (arith, fills, ap length rest, length-append (fragment_in s x).bytes (joined (with_id id (fragments_in s left))), its-length)
 
-            its-length : f.len ≡ length (fragment_in s x).bytes
-            its-length = ap (λ (y : FragmentNumbers). y.len) ef
+        its-bytes : take (f.start + f.len - f.start) (drop f.start s) ≡ (fragment_in s x).bytes
+        its-bytes =
+            let n : f.start + f.len - f.start ≡ length (fragment_in s x).bytes = omega (arith, its-length) in
+            (λ j. take (n j) (drop (ap (λ (y : FragmentNumbers). y.start) r.numbers j) s)) ∙ data-part s x.at r.itself.step r.kind
 
-            its-kind : is_ods (segment_type (drop x.at s)) ≡ true
-            its-kind = its-ods joins-stand.0 e q z
+        -- its data is copied
+        pub joins-on : {ys : List ℕ} → ys ≡ take (f.start + f.len - f.start) (drop f.start s)
+            → Joining s from id start (take k now ++ (ys ++ drop (k + f.len - k) (drop k now))) left (k + f.len)
+        joins-on {ys} ey =
+            rw copied
+            (rw n
+            (record {
+              stand = r.stand;
+              room = c.room;
+              front = part-back (fragment_in s x).bytes (rw rest at c.front) its-length joins-to;
+            }))
+          where
+            n : k + f.len - k ≡ f.len
+            n = omega arith
 
-            -- its data lies within the stream, and fits the part
-            pub joins-from : f.start + f.len ≤ length s
-            joins-from = omega (arith, ap (λ (y : FragmentNumbers). y.start) ef, its-length, data-within s x.at joins-stand.0.step its-kind)
-
-            pub joins-to : k + f.len ≤ length now
-            joins-to =
-                omega (arith, fills, ap length rest, length-append (fragment_in s x).bytes (joined (with_id id (fragments_in s left))), its-length)
-
-            its-bytes : take (f.start + f.len - f.start) (drop f.start s) ≡ (fragment_in s x).bytes
-            its-bytes =
-                let n : f.start + f.len - f.start ≡ length (fragment_in s x).bytes = omega (arith, its-length) in
-                (λ j. take (n j) (drop (ap (λ (y : FragmentNumbers). y.start) ef j) s)) ∙ data-part s x.at joins-stand.0.step its-kind
-
-            -- its data is copied
-            pub joins-on : {ys : List ℕ} → ys ≡ take (f.start + f.len - f.start) (drop f.start s)
-                → Joining s from id start (take k now ++ (ys ++ drop (k + f.len - k) (drop k now))) left (k + f.len)
-            joins-on {ys} ey =
-                rw copied
-                (rw n
-                (record {
-                  stand = joins-stand.1;
-                  room = c.room;
-                  front = part-back (fragment_in s x).bytes (rw rest at c.front) its-length joins-to;
-                }))
-              where
-                n : k + f.len - k ≡ f.len
-                n = omega arith
-
-                copied : ys ≡ (fragment_in s x).bytes
-                copied = ey ∙ its-bytes
+            copied : ys ≡ (fragment_in s x).bytes
+            copied = ey ∙ its-bytes
 
 -- the rows before i are joined, in `at` bytes
 pub record Placing (s : List ℕ) (rows : List ChainRow) (start now : List ℕ) (i at : ℕ) : Type 0 where
@@ -150,13 +126,14 @@ pub record Placing (s : List ℕ) (rows : List ChainRow) (start now : List ℕ) 
   pub front : Front start (joined_rows s rows) now (joined_rows s (drop i rows)) at
 
 module _ (s : List ℕ) (rows : List ChainRow) where
-  pub placing : (start : List ℕ) → AllJoinable s rows → Placing s rows start start 0 0
-  placing start m = record { within = omega arith; joins = omega arith; joinable = m; front = begins start (joined_rows s rows) }
-
   module _ {start now : List ℕ} {i at : ℕ} (c : Placing s rows start now i at) where
     module _ (m : i < length rows) where
       pub its : AllJoinable s (get_or rows i no_row ∷ drop (i + 1) rows)
       its = rw (drop-next rows i no_row m) at c.joinable
+
+      -- the bytes of this row come before those of the rows behind it
+      rows-here : {ys : List ℕ} → row_bytes s (get_or rows i no_row) ≡ ys → joined_rows s (drop i rows) ≡ ys ++ joined_rows s (drop (i + 1) rows)
+      rows-here e = ap (joined_rows s) (drop-next rows i no_row m) ∙ ap (λ (l : List ℕ). l ++ joined_rows s (drop (i + 1) rows)) e
 
       -- a chain of one fragment stays in the stream
       pub places-none : (get_or rows i no_row).copied ≡ false → Placing s rows start now (i + 1) at
@@ -165,7 +142,7 @@ module _ (s : List ℕ) (rows : List ChainRow) where
             within = omega arith;
             joins = omega (arith, c.joins, ap joined_in (drop-next rows i no_row m), pick_second (get_or rows i no_row).len 0 e);
             joinable = its.1;
-            front = rw (ap (joined_rows s) (drop-next rows i no_row m) ∙ ap (λ (l : List ℕ). l ++ joined_rows s (drop (i + 1) rows)) (pick_second (row_data s (get_or rows i no_row)) [] e)) at c.front;
+            front = rw (rows-here (pick_second (row_data s (get_or rows i no_row)) [] e)) at c.front;
           }
 
       -- a chain of several is joined
@@ -173,12 +150,6 @@ module _ (s : List ℕ) (rows : List ChainRow) where
         pub places-within : joined_in rows ≤ length start → at + (get_or rows i no_row).len ≤ length now
         places-within room =
             omega (arith, c.joins, ap joined_in (drop-next rows i no_row m), pick_first (get_or rows i no_row).len 0 e, c.front.same)
-
-        -- its part is exactly as long as its data
-        pub places-part : joined_in rows ≤ length start
-            → length (take (at + (get_or rows i no_row).len - at) (drop at now)) ≡ length (row_data s (get_or rows i no_row))
-        places-part room =
-            omega (arith, places-within room, length-take (at + (get_or rows i no_row).len - at) (drop at now), length-drop at now, its.0.measured)
 
         pub places-on : joined_in rows ≤ length start → {ys : List ℕ} → ys ≡ row_data s (get_or rows i no_row)
             → Placing s rows start (take at now ++ (ys ++ drop (at + (get_or rows i no_row).len - at) (drop at now))) (i + 1) (at + (get_or rows i no_row).len)
@@ -191,9 +162,6 @@ module _ (s : List ℕ) (rows : List ChainRow) where
               joinable = its.1;
               front =
                   part-back (row_data s (get_or rows i no_row))
-                  (rw (ap (joined_rows s) (drop-next rows i no_row m) ∙ ap (λ (l : List ℕ). l ++ joined_rows s (drop (i + 1) rows)) (pick_first (row_data s (get_or rows i no_row)) [] e)) at c.front)
+                  (rw (rows-here (pick_first (row_data s (get_or rows i no_row)) [] e)) at c.front)
                   (sym its.0.measured) (places-within room);
             })
-
-    pub placed-all : length rows ≤ i → now ≡ laid accepted (joined_rows s rows) start
-    placed-all h = filled (rw (ap (joined_rows s) (drop_of_length-le rows h)) at c.front)

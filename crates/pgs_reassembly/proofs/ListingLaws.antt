@@ -2,13 +2,12 @@
 use mathlib.Core.Path.{◌≡◌, refl, sym, ap, ◌∙◌}
 use mathlib.Core.Bool.{Bool, true, false}
 use mathlib.Core.List.{List, [], ◌∷◌, map}
-use Prim.Native.Nat.{ℕ, suc, ◌+◌, ◌-◌, ◌≤◌, ◌<◌}
+use Prim.Native.Nat.{ℕ, suc, ◌+◌, ◌≤◌, ◌<◌}
 use native.Mathlib.Omega.{arith}
-use borrow.Author.Tests.{eq-eqb, ne_eqb, le-leb, lt-leb}
-use lib.ListN.{length, drop, get_or, length-append, length-map, drop_of_length-le}
+use lib.ListN.{length, drop, get_or, length-append, length-map}
 use Rattle.std.proofs.lemmas.List.Recursion.{is_sum_by}
 use Rattle.std.specs.List.{sum_by}
-use Rattle.pgs_base.specs.Outcome.{Verdict, accepted, refused, and_then, pick}
+use Rattle.pgs_base.specs.Outcome.{Verdict, and_then, pick}
 use Rattle.pgs_reassembly.proofs.Lists.{no_row, drop-next}
 use Rattle.pgs_reassembly.specs.Objects.{Chain, data_of, chains_verdict}
 use Rattle.pgs_reassembly.specs.Reassembly.{copied, copied_data, joined_data, object_record, object_records_from, row_of, rows_from}
@@ -35,44 +34,12 @@ pub record Checking (rows : List ChainRow) (i : ℕ) : Type 0 where
   pub verdict : rows_verdict (drop i rows) ≡ rows_verdict rows
 
 module _ (rows : List ChainRow) where
-  pub checking : Checking rows 0
-  checking = record { within = omega arith; verdict = refl }
-
   module _ {i : ℕ} (c : Checking rows i) (m : i < length rows) where
     decides : (v : Verdict) → row_verdict (get_or rows i no_row) ≡ v → rows_verdict rows ≡ and_then v (rows_verdict (drop (i + 1) rows))
     decides v e =
         sym c.verdict
         ∙ ap rows_verdict (drop-next rows i no_row m)
         ∙ ap (λ (v : Verdict). and_then v (rows_verdict (drop (i + 1) rows))) e
-
-    pub checked-open : (get_or rows i no_row).closed ≡ false → rows_verdict rows ≡ refused 20
-    checked-open e = decides (refused 20) (simp e)
-
-    pub checked-small : (get_or rows i no_row).closed ≡ true → (get_or rows i no_row).first.ods.object_data_length < 4 → rows_verdict rows ≡ refused 21
-    checked-small e h = decides (refused 21) (simp (e, lt-leb 4 (get_or rows i no_row).first.ods.object_data_length h))
-
-    pub checked-unequal : (get_or rows i no_row).closed ≡ true → 4 ≤ (get_or rows i no_row).first.ods.object_data_length
-        → ((get_or rows i no_row).first.ods.object_data_length - 4 ≡ (get_or rows i no_row).len → ⊥)
-        → rows_verdict rows ≡ refused 22
-    checked-unequal e h q =
-        decides (refused 22)
-        (simp
-        (e, le-leb 4 (get_or rows i no_row).first.ods.object_data_length h, ne_eqb ((get_or rows i no_row).first.ods.object_data_length - 4) (get_or rows i no_row).len q))
-
-    pub checks-on : (get_or rows i no_row).closed ≡ true → 4 ≤ (get_or rows i no_row).first.ods.object_data_length
-        → (get_or rows i no_row).first.ods.object_data_length - 4 ≡ (get_or rows i no_row).len
-        → Checking rows (i + 1)
-    checks-on e h q =
-        record {
-          within = omega arith;
-          verdict = sym
-              (decides accepted
-              (simp
-              (e, le-leb 4 (get_or rows i no_row).first.ods.object_data_length h, eq-eqb ((get_or rows i no_row).first.ods.object_data_length - 4) (get_or rows i no_row).len q)));
-        }
-
-  pub checked : {i : ℕ} → Checking rows i → length rows ≤ i → rows_verdict rows ≡ accepted
-  checked {i} c h = sym c.verdict ∙ ap rows_verdict (drop_of_length-le rows h)
 
 -- a record for each row
 pub rows-length : (at : ℕ) (rows : List ChainRow) → length (records_from at rows) ≡ length rows

@@ -7,7 +7,7 @@ use native.Mathlib.Omega.{arith}
 use borrow.Author.Tests.{eq-eqb, le-leb, lt-leb, leb-true}
 use lib.Dec.{leb, ltb}
 use lib.ListN.{length, take, drop, length-map}
-use Rattle.pgs_base.specs.Outcome.{Verdict, accepted, refused, gives, refuses, and_then, unless, needing, laid, delivery, Delivered, pick}
+use Rattle.pgs_base.specs.Outcome.{Verdict, accepted, refused, Outcome, gives, refuses, and_then, unless, needing, laid, delivery, Delivered, pick}
 use Rattle.pgs_base.proofs.Outcomes.{not-both, not-refused, holds, second_holds}
 use Rattle.pgs_segment.specs.OneSegment.{segment_type, used_by}
 use Rattle.pgs_stream.specs.Stream.{Reading, step_verdict}
@@ -25,7 +25,7 @@ use Rattle.pgs_reassembly.proofs.ListingLaws.{rows-verdict, rows-joined, rows-re
 use Rattle.pgs_reassembly.specs.Objects.{Fragment, Chain, is_ods, fragment_at, fragments_from, id_of, opens_chain}
 use Rattle.pgs_reassembly.specs.Objects.{with_id, joined, chains_of, data_of, chains_verdict, fragments_verdict, object_limit}
 use Rattle.pgs_reassembly.specs.Objects.{verdict_after, fragments_of, objects_of, objects_verdict, objects_verdict_within}
-use Rattle.pgs_reassembly.specs.Reassembly.{copied, joined_data, object_records, reassembly, Reassembled}
+use Rattle.pgs_reassembly.specs.Reassembly.{copied, joined_data, object_records, reassembly, Joined, Reassembled}
 use Rattle.pgs_reassembly.specs.Tables.{chain_row, total, Leaves, Rows, Found, rows_verdict, joined_in, records_from, row_data, joined_rows, AllJoinable, fragments_left}
 use Rattle.pgs_reassembly.specs.declared.ChainRow.{ChainRow}
 use Rattle.pgs_reassembly.specs.declared.ObjectRecord.{ObjectRecord}
@@ -270,6 +270,28 @@ module _ {A : Type 0} (made : ObjectRecord → A) (v : Verdict) (cs : List Chain
           reassembly-is (joining-verdict (le-leb _ _ (omega (arith, need-is (f.found refl))))) (rows-count (f.found refl))
           (its-list made v cs list f el) (es ∙ ap (λ (l : List ℕ). laid accepted l scratch) (f.found refl).bytes)
 
+-- and joining them alone
+module _ (v : Verdict) (cs : List Chain) (scratch : List ℕ) where
+  join-refused : {k : ℕ} → delivery v (joined_data cs) scratch ≡ refused k → Joined v cs scratch scratch (refused k)
+  join-refused e = record { answered = sym e; written = ap (λ (w : Verdict). laid w (joined_data cs) scratch) (sym e) }
+
+  module _ {s : List ℕ} {now : List ChainRow} where
+    pub joins-refusal : {k : ℕ} → Found s v cs now (refused k) → Joined v cs scratch scratch (refused k)
+    joins-refusal f = join-refused (ap (λ (w : Verdict). and_then w (needing (length (joined_data cs)) (length scratch))) (sym f.answered))
+
+    module _ (f : Found s v cs now accepted) where
+      join-verdict : {t : Bool} → leb (length (joined_data cs)) (length scratch) ≡ t → delivery v (joined_data cs) scratch ≡ unless 34 t
+      join-verdict e = λ j. and_then (sym f.answered j) (unless 34 (e j))
+
+      pub joins-short : length scratch < joined_in now → Joined v cs scratch scratch (refused 34)
+      joins-short h = join-refused (join-verdict (lt-leb _ _ (omega (arith, need-is (f.found refl)))))
+
+      pub joins-all : joined_in now ≤ length scratch → {scratch' : List ℕ} → scratch' ≡ laid accepted (joined_rows s now) scratch
+          → Joined v cs scratch scratch' accepted
+      joins-all h e =
+          let room = join-verdict (le-leb _ _ (omega (arith, need-is (f.found refl)))) in
+          record { answered = sym room; written = e ∙ (λ j. laid (sym room j) ((f.found refl).bytes j) scratch) }
+
 -- the set is looked for before its objects
 set_first : (limit k : ℕ) (s : List ℕ) → objects_verdict_within limit k s ≡ and_then (set_verdict k s) (fragments_verdict limit (fragments_of (set_number k s)))
 set_first limit k s = go (sets_verdict s)
@@ -289,7 +311,7 @@ begin-fragments s {at} b =
 
 -- the set of a number, where its PCS stands
 module _ (s : List ℕ) (k : ℕ) {r : ℕ} (st : SetStands s k r) where
-  set-fragments : fragments_of (set_number k s) ≡ fragments_left s (r + used_by (drop r s))
+  pub set-fragments : fragments_of (set_number k s) ≡ fragments_left s (r + used_by (drop r s))
   set-fragments = ap fragments_of (sym st.found) ∙ begin-fragments s (stands-begins s k st)
 
   -- its objects are those found from there
@@ -306,6 +328,14 @@ module _ (s : List ℕ) (k : ℕ) {r : ℕ} (st : SetStands s k r) where
       → Found t (fragments_verdict object_limit (fragments_left t from)) (chains_of (fragments_left t from)) now answer
       → Found s (objects_verdict k s) (objects_of k s) now answer
   set-found a es ef {now} {answer} f = rw (set-verdict a, set-objects) (rw (es, ef) at f)
+
+  -- and so is what listing them promises
+  pub set-listed : set_verdict k s ≡ accepted → {t : List ℕ} {from : ℕ} → t ≡ s → from ≡ r + used_by (drop r s) → {A : Type 0} (made : ObjectRecord → A)
+      → {list list' : List A} {answer : Outcome ℕ}
+      → Delivered (fragments_verdict object_limit (fragments_left t from)) (length (chains_of (fragments_left t from)))
+      (map made (object_records (chains_of (fragments_left t from)))) list list' answer
+      → Delivered (objects_verdict k s) (length (objects_of k s)) (map made (object_records (objects_of k s))) list list' answer
+  set-listed a es ef made d = rw (set-verdict a, set-objects) (rw (es, ef) at d)
 
 -- there is no such set
 pub no-set : (limit k : ℕ) (s : List ℕ) {n : ℕ} → set_verdict k s ≡ refused n → objects_verdict_within limit k s ≡ refused n

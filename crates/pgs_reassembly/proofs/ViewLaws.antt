@@ -5,14 +5,14 @@ use mathlib.Core.Bool.{Bool, true, false}
 use mathlib.Core.List.{List, [], ◌∷◌, ◌++◌, map, append-nil, append_assoc}
 use Prim.Native.Nat.{ℕ, zero, suc, ◌+◌, ◌-◌, ◌≤◌}
 use native.Mathlib.Omega.{arith}
-use borrow.Author.Tests.{le-leb, eq-eqb, ne_eqb}
+use borrow.Author.Tests.{le-leb}
 use lib.Dec.{eqb}
 use lib.ListN.{length, take, drop, get_or, length-append}
 use lib.Seq.{take_at, drop-append_seam, take-append_seam}
 use Rattle.pgs_base.specs.Outcome.{Verdict, accepted, gives, laid, pick}
 use Rattle.pgs_base.proofs.Outcomes.{gave, gave-value}
 use Rattle.pgs_segment.specs.OneSegment.{segment_type}
-use Rattle.pgs_set.proofs.Choices.{pick_first, pick_second}
+use Rattle.pgs_set.proofs.Choices.{pick_first}
 use Rattle.pgs_reassembly.proofs.FragmentLaws.{data-within, data-part}
 use Rattle.pgs_reassembly.proofs.ListingLaws.{record-count}
 use Rattle.pgs_reassembly.proofs.ObjectLaws.{Begins, AllBegin, all-begin, piece-here}
@@ -32,11 +32,6 @@ module _ (at n : ℕ) (l : List ℕ) where
 
   pub part-whole : at ≤ length l → n ≤ length l - at → take (at + n - at) (drop at l) ≡ part_of at n l
   part-whole h q = let e : at + n - at ≡ n = omega arith in ap (λ (k : ℕ). take k (drop at l)) e ∙ sym (part-within h q)
-
--- a record of the scratch
-module _ (s x r : List ℕ) where
-  pub shows-scratch : {l : List ℕ} → (get_or r 4 0 ≡ 0 → ⊥) → get_or r 4 0 ≡ 1 → l ≡ part_of (get_or r 5 0) (get_or r 6 0) x → l ≡ shown_by s x r
-  shows-scratch n e q = q ∙ sym (pick_second _ _ (ne_eqb (get_or r 4 0) 0 n) ∙ pick_first _ _ (eq-eqb (get_or r 4 0) 1 e))
 
 -- a part of three lists joined is the one in the middle
 part-middle : (a b c : List ℕ) → part_of (length a) (length b) (a ++ (b ++ c)) ≡ b

@@ -3,7 +3,7 @@
 -- Each copied chain is written to its own part of the scratch. An object's joined data is shown as a part of the stream or of the
 -- scratch, whichever holds it. Object records (id, version, width, height, holder, place, length) fill a caller's list."
 use Rattle.std.specs.Prelude.{ℕ, ◌+◌, ◌-◌, ◌≡◌, Bool, true, false, List, [], ◌∷◌, ◌++◌, map, leb, eqb, length, take, drop, get_or}
-use Rattle.pgs_base.specs.Outcome.{Verdict, Outcome, outcome_of, and_then, needing, laid, pick}
+use Rattle.pgs_base.specs.Outcome.{Verdict, Outcome, outcome_of, and_then, needing, laid, delivery, pick}
 use Rattle.pgs_reassembly.specs.Objects.{Fragment, Chain, object_id, version_of, width_of, height_of, data_of, data_place}
 use Rattle.pgs_reassembly.specs.declared.ObjectRecord.{ObjectRecord}
 
@@ -75,6 +75,11 @@ pub record Reassembled {A : Type 0} (made : ObjectRecord → A) (verdict : Verdi
   pub answered : answer ≡ outcome_of (reassembly verdict cs list scratch) (length cs)
   pub listed : list' ≡ laid (reassembly verdict cs list scratch) (map made (object_records cs)) list
   pub written : scratch' ≡ laid (reassembly verdict cs list scratch) (joined_data cs) scratch
+
+-- what a call promises that joins these objects and lists none
+pub record Joined (verdict : Verdict) (cs : List Chain) (scratch scratch' : List ℕ) (answer : Verdict) : Type 0 where
+  pub answered : answer ≡ delivery verdict (joined_data cs) scratch
+  pub written : scratch' ≡ laid (delivery verdict (joined_data cs) scratch) (joined_data cs) scratch
 
 -- the part of a list from a place, of a length; empty where it would pass the end
 abbrev pub part_of : ℕ → ℕ → List ℕ → List ℕ

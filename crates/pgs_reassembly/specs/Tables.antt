@@ -1,5 +1,5 @@
 -- The table of chains that finding objects keeps: a row for each chain, in first-seen order. Private contracts of
--- `pgs_object` cite this; those of its public functions cite `Objects` and `Reassembly`.
+-- `pgs_object` cite this; those of its public functions cite `Objects` and `Reassembly`, and those that take an open set cite `fragments_left`.
 use Rattle.std.specs.Prelude.{ℕ, suc, ◌+◌, ◌-◌, ◌≤◌, ◌≡◌, Bool, true, false, List, [], ◌∷◌, ◌++◌, map, leb, eqb, length, drop}
 use Rattle.std.specs.Prelude.{Option, None, Some}
 use Rattle.std.specs.Option.{option_map}
@@ -35,6 +35,10 @@ fragments_in s (x ∷ xs) = pick (holds_fragment x) (fragment_in s x ∷ fragmen
 -- the numbers of a fragment
 abbrev pub fragment_numbers : Fragment → FragmentNumbers
 fragment_numbers f = record { place = f.place; ods = f.ods; start = data_place f; len = length f.bytes }
+
+-- what reading a segment as a fragment gives
+abbrev pub fragment_read : List ℕ → PlacedSegment → Option FragmentNumbers
+fragment_read s x = pick (holds_fragment x) (Some (fragment_numbers (fragment_in s x))) None
 
 -- whether a fragment with these numbers is a first one, and whether it is a last one
 abbrev pub is_opening : FragmentNumbers → Bool

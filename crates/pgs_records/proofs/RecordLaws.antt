@@ -8,13 +8,12 @@ use native.Mathlib.Omega.{arith}
 use borrow.Author.Tests.{leb-true, leb-false, le-leb, lt-leb}
 use lib.Dec.{leb}
 use lib.ListN.{length, take, drop, set, length-drop, length-map}
-use Rattle.pgs_base.specs.Bytes.{num}
-use Rattle.pgs_base.specs.Outcome.{Outcome, Verdict, Delivered, pick, gives, refuses, outcome_of, unless}
+use Rattle.pgs_base.specs.Outcome.{Verdict, Delivered, pick, gives, refuses, outcome_of, unless}
 use Rattle.pgs_base.proofs.Decisions.{leb-same}
-use Rattle.pgs_base.proofs.Outcomes.{delivered, delivered-refusal, gave, gave-value, turned_down, gives_as, refuses-as}
+use Rattle.pgs_base.proofs.Outcomes.{delivered, delivered-refusal, gives_as, refuses-as}
 use Rattle.pgs_base.proofs.Lists.{to_end}
 use Rattle.pgs_base.proofs.Front.{Front, stored, filled-whole}
-use Rattle.pgs_records.specs.Records.{records, records_fit, records_size, counted_verdict, counted_list, counted_records}
+use Rattle.pgs_records.specs.Records.{records, records_fit, records_size}
 
 pub records-length : {A : Type 0} (f : List ℕ → A) (size : List ℕ → ℕ) (n : ℕ) (l : List ℕ) → length (records f size n l) ≡ n
 records-length f size zero l = refl
@@ -138,28 +137,3 @@ module _ {A X Y : Type 0} {v : Verdict} {x : X} (y : Y) {new before now : List A
 
   pub refused-as : {k : ℕ} → Delivered v x new before now (refuses k) → Delivered v y new before now (refuses k)
   refused-as d = record { answered = refuses-as y (delivered-refusal d); written = d.written }
-
--- records behind their count, the byte at `at`
-module _ (size : List ℕ → ℕ) (at : ℕ) (b : List ℕ) where
-  -- what follows the count
-  abbrev behind : List ℕ
-  behind = take (length b - (at + 1)) (drop (at + 1) b)
-
-  module _ (h : at < length b) {n : ℕ} (e : n ≡ num 1 at b) where
-    pub counted-walked : {len : ℕ} → gives len ≡ outcome_of (unless 4 (records_fit size n behind)) (records_size size n behind)
-        → gives (record { count = n; start = at + 1; len = len }) ≡ outcome_of (counted_verdict size at b) (counted_list size at b)
-    counted-walked {len} w =
-        let all = gave (unless 4 (records_fit size n behind)) (records_size size n behind) w in
-        let length-is = gave-value (unless 4 (records_fit size n behind)) (records_size size n behind) w in
-        gives_as (simp (le-leb (at + 1) (length b) (omega arith)) (rw (to_end (at + 1) b, e) at all)) (rw (length-is, to_end (at + 1) b, e))
-
-    pub counted-cut : {k : ℕ} → refuses k ≡ outcome_of (unless 4 (records_fit size n behind)) (records_size size n behind)
-        → refuses k ≡ outcome_of (counted_verdict size at b) (counted_list size at b)
-    counted-cut w =
-        let cut = turned_down (unless 4 (records_fit size n behind)) (records_size size n behind) w in
-        refuses-as (counted_list size at b) (simp (le-leb (at + 1) (length b) (omega arith)) (rw (to_end (at + 1) b, e) at cut))
-
-    pub counted-delivered : {A B : Type 0} (g : A → B) (f : List ℕ → A) {before now : List B} {answer : Outcome ℕ}
-        → Delivered (unless 4 (records_fit size n behind)) n (map g (records f size n behind)) before now answer
-        → Delivered (counted_verdict size at b) (num 1 at b) (map g (counted_records f size at b)) before now answer
-    counted-delivered g f d = simp (le-leb (at + 1) (length b) (omega arith)) (rw (to_end (at + 1) b, e) at d)

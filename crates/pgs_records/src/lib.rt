@@ -6,8 +6,8 @@ pub mod list;
 // The part of a body that holds its records (placements, windows, entries) or its data bytes.
 #[derive(Clone, Copy, Debug, PartialEq, Eq)]
 pub struct BodyList {
-    // how many records; 0 where the part holds data bytes. Stays a number: the kind of the segment says whether there are records, and an
-    // Option would say it again
+    // how many records; 0 where the part holds data bytes
+    // Stays a number: the kind of the segment says whether there are records, and an Option would say it again
     pub count: usize,
     // the part's place in the body
     pub start: usize,

@@ -20,63 +20,29 @@ use crate::palette::color_table;
 use crate::storing::store_bitmaps;
 use pgs_base::dimensions::Dimensions;
 use pgs_base::refusal::Refusal;
-use pgs_object::object::{OBJECT_LIMIT, reassemble_objects};
+use pgs_object::object::join_in_set;
 use pgs_pcs::pcs::Pcs;
 use pgs_pcs::placements::Placements;
 use pgs_plane::plane::{clear_plane, plane_bytes};
 use pgs_reassembly::ObjectRecord;
-use pgs_segment::header::SegmentHeader;
-use pgs_set::open_set::{OpenSet, PlacedSet};
-use pgs_set::set::find_set;
+use pgs_rendering::Shown;
+use pgs_set::open_set::OpenSet;
 
 // A display set that 1 to 23 and 36 do not refuse.
 #[derive(Clone, Copy)]
 pub(crate) struct ListedSet<'a> {
-    // its number in the stream
-    number: usize,
+    // its number in the stream, which the contracts name
+    pub(crate) number: usize,
     // of its objects
-    records: &'a [ObjectRecord],
+    pub(crate) records: &'a [ObjectRecord],
     // of its PCS
-    body: &'a [u8],
-    pts: u32,
+    pub(crate) body: &'a [u8],
+    pub(crate) pts: u32,
     // its segments after the PCS
-    others: OpenSet<'a>,
-    ghost bytes: { Bytes others.stream.now },
-    ghost listed: { Listed number others.stream.now records.now },
-    ghost composed: { Composed number others.stream.now body.now pts others.from },
-}
-
-// The set of this number, with the records of its objects.
-pub(crate) fn find_listed<'a>(s: &'a [u8], set: usize, records: &'a [ObjectRecord]) -> ListedSet<'a>
-    requires { Listed set s.now records.now }
-    ensures number { result.number ≡ set }
-    ensures stream { result.others.stream.now ≡ s.now }
-{
-    // the set is there, since its objects were listed
-    let found = find_set(s, set).unwrap();
-    let placed = PlacedSet {
-        stream: s,
-        place: found.place,
-    };
-    let others = placed.open();
-    ListedSet {
-        number: set,
-        records,
-        body: &s[found.place + SegmentHeader::SIZE..others.from],
-        pts: found.pts,
-        others,
-    }
-}
-
-// The size of the plane of a composition.
-// Stays a function: `Dimensions::from(pcs)` would not say of what it is the size.
-fn plane_size(pcs: Pcs) -> Dimensions
-    ensures { result ≡ record { width = pcs.width; height = pcs.height } }
-{
-    Dimensions {
-        width: pcs.width,
-        height: pcs.height,
-    }
+    pub(crate) others: OpenSet<'a>,
+    pub(crate) ghost bytes: { Bytes others.stream.now },
+    pub(crate) ghost listed: { Listed number others.stream.now records.now },
+    pub(crate) ghost composed: { Composed number others.stream.now body.now pts others.from },
 }
 
 impl<'a> ListedSet<'a> {
@@ -94,12 +60,18 @@ impl<'a> ListedSet<'a> {
         Placements::of_body(self.body)
     }
 
-    // Width and height of its plane, and the PTS of its PCS.
-    fn answer(self) -> (u16, u16, u32)
+    // The size of its plane, and the PTS of its PCS.
+    fn answer(self) -> Shown
         ensures { result ≡ answer_of (display_set self.entry) }
     {
         let pcs = self.composition();
-        (pcs.width, pcs.height, self.pts)
+        Shown {
+            size: Dimensions {
+                width: pcs.width,
+                height: pcs.height,
+            },
+            pts: self.pts,
+        }
     }
 
     // Joins the data of the objects, for which there is room, then tests 24 to 33.
@@ -107,10 +79,8 @@ impl<'a> ListedSet<'a> {
         requires { length (joined_data (its_objects self)) ≤ length scratch.old }
         ensures { JoinedAndRead self.entry.number self.entry.others.stream.now scratch.old scratch.new (verdict_of result) }
     {
-        let stream = self.others.stream;
-        let mut objects = [ObjectRecord::default(); OBJECT_LIMIT];
-        let _ = reassemble_objects(stream, self.number, scratch, &mut objects);
-        check_content(stream, scratch, self.records, self.placements())
+        let _ = join_in_set(self.others, scratch);
+        check_content(self.others.stream, scratch, self.records, self.placements())
     }
 
     // Stores the bitmaps after the `joined` bytes of joined data, and paints: nothing here can fail.
@@ -119,9 +89,8 @@ impl<'a> ListedSet<'a> {
         ensures { Showing self.entry.number self.entry.others.stream.now scratch.old scratch.new plane.old plane.new }
     {
         store_bitmaps(self.others.stream, self.records, joined, scratch);
-        let pcs = self.composition();
-        let table = color_table(self.others, pcs.palette_id);
-        let size = plane_size(pcs);
+        let table = color_table(self.others, self.composition().palette_id);
+        let size = self.answer().size;
         let _ = clear_plane(size, plane);
         let bitmaps = StoredBitmaps {
             records: self.records,
@@ -132,11 +101,7 @@ impl<'a> ListedSet<'a> {
     }
 
     // Paints it.
-    pub(crate) fn render(
-        self,
-        scratch: &mut [u8],
-        plane: &mut [u8],
-    ) -> Result<(u16, u16, u32), Refusal>
+    pub(crate) fn render(self, scratch: &mut [u8], plane: &mut [u8]) -> Result<Shown, Refusal>
         ensures { Rendered rgb_of (objects_verdict self.entry.number self.entry.others.stream.now)
             (display_set self.entry) (its_objects self.entry)
             scratch.old scratch.new plane.old plane.new (outcome result) }
@@ -144,11 +109,12 @@ impl<'a> ListedSet<'a> {
         if !objects_fit(self.records, scratch.len()) {
             return Err(Refusal::BufferTooSmall);
         }
-        if plane.len() < plane_bytes(plane_size(self.composition())) {
+        let shown = self.answer();
+        if plane.len() < plane_bytes(shown.size) {
             return Err(Refusal::BufferTooSmall);
         }
         self.join_and_read(scratch)?;
         self.show(joined_total(self.records), scratch, plane);
-        Ok(self.answer())
+        Ok(shown)
     }
 }

@@ -23,6 +23,7 @@ pub(crate) struct StoredBitmaps<'a> {
 
 impl<'a> StoredBitmaps<'a> {
     // That of an object id.
+    // Stays a loop: where a bitmap stands is the sum of the areas before it, which `position` would have to be followed by.
     fn get(self, id: u16) -> Option<Image<'a>>
         ensures { MatchOption result (bitmap_at self.entry.scratch.now self.entry.from self.entry.records.now id ≡ None)
             (λ i. bitmap_at self.entry.scratch.now self.entry.from self.entry.records.now id ≡ Some (image_of i.size.width i.size.height i.indices.now)) }

@@ -18,8 +18,8 @@ use pgs_set::open_set::OpenSet;
 use pgs_views::segment_type::SegmentType;
 
 // Whether a segment has a palette.
-// Stays a function: of a derived `==` a proof gets a comparison of the parts of the two values (`denote.Enum.Compared`), which a lemma of six
-// cases would have to turn into the specification's `is_pds`; here there is none.
+// Stays a function: `matches!` in the caller, or a derived `==`, would leave the six kinds to the caller's proof; here the contract says
+// `is_pds`.
 fn is_pds(kind: SegmentType) -> bool
     ensures { result ≡ is_pds kind }
 {

@@ -85,7 +85,7 @@ few-after limit (f ∷ fs) earlier e h =
     more true q continuing a = let z : ◌≡◌ {A = ℕ} 0 1 = cc in absurd (omega arith)
     more true q complete a = let z : ◌≡◌ {A = ℕ} 0 1 = cc in absurd (omega arith)
 
-pub few-objects : (limit : ℕ) (fs : List Fragment) → fragments_verdict limit fs ≡ accepted → length (chains_of fs) ≤ limit
+few-objects : (limit : ℕ) (fs : List Fragment) → fragments_verdict limit fs ≡ accepted → length (chains_of fs) ≤ limit
 few-objects limit fs e = few-after limit fs [] (first-accepts (verdict_after limit [] fs) (chains_verdict (chains_of fs)) e) (omega arith)
 
 -- a set that is not refused has no more objects than the limit

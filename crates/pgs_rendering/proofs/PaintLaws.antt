@@ -3,11 +3,10 @@ use Rattle.std.specs.Prelude.{Option, None, Some, IsSome, MatchOption}
 use mathlib.Core.Path.{◌≡◌, refl, sym, ap, subst, ◌∙◌}
 use mathlib.Core.Bool.{Bool, true, false, ◌||◌, ◌&&◌}
 use mathlib.Core.List.{List, [], ◌∷◌}
-use Prim.Native.Nat.{ℕ, ◌+◌, ◌-◌, ◌*◌, ◌≤◌, ◌<◌}
+use Prim.Native.Nat.{ℕ, ◌+◌, ◌-◌, ◌*◌, ◌≤◌}
 use native.Mathlib.Omega.{arith}
-use borrow.Author.Tests.{eq-eqb, ne_eqb}
 use lib.Dec.{eqb}
-use lib.ListN.{length, take, drop, get_or, length-drop, drop_of_length-le}
+use lib.ListN.{length, take, drop, length-drop}
 use lib.Seq.{length-take-le}
 use Rattle.pgs_base.specs.Outcome.{Verdict, pick}
 use Rattle.pgs_plane.specs.Calls.{all_fit, Paints}
@@ -15,11 +14,8 @@ use Rattle.pgs_plane.specs.Pictures.{painted, painted_all}
 use Rattle.pgs_plane.specs.Placing.{Image, image_of, index_shown, table_color}
 use Rattle.pgs_plane.proofs.CallLaws.{all-fit}
 use Rattle.pgs_pcs.specs.declared.pcs.CompositionObject.{CompositionObject}
-use Rattle.pgs_reassembly.proofs.Lists.{drop-next}
 use Rattle.pgs_reassembly.specs.declared.ObjectRecord.{ObjectRecord}
-use Rattle.pgs_rendering.specs.Records.{record_size, record_area, records_area, has_record, all_present, bitmap_at, image_or, look_at}
-use Rattle.pgs_base.specs.declared.dimensions.Dimensions.{Dimensions}
-use Rattle.pgs_rendering.proofs.RecordLaws.{no_record}
+use Rattle.pgs_rendering.specs.Records.{record_area, records_area, has_record, all_present, bitmap_at, image_or, look_at}
 
 -- a part as the code lends it
 pub lent-part : (place area : ℕ) (l : List ℕ) → take (place + area - place) (drop place l) ≡ take area (drop place l)
@@ -34,45 +30,6 @@ pub record Seeing (rs : List ObjectRecord) (scratch : List ℕ) (from id i at : 
   pub within : i ≤ length rs
   pub found : bitmap_at scratch at (drop i rs) id ≡ bitmap_at scratch from rs id
   pub room : at + records_area (drop i rs) ≡ from + records_area rs
-
-module _ (rs : List ObjectRecord) (scratch : List ℕ) (from id : ℕ) where
-  pub seeing : Seeing rs scratch from id 0 from
-  seeing = record { within = omega arith; found = refl; room = refl }
-
-  module _ {i at : ℕ} (c : Seeing rs scratch from id i at) where
-    tests : i < length rs → {b : Bool} → eqb (get_or rs i no_record).id id ≡ b
-        → bitmap_at scratch from rs id
-        ≡ pick b (Some (image_at scratch at (get_or rs i no_record))) (bitmap_at scratch (at + record_area (get_or rs i no_record)) (drop (i + 1) rs) id)
-    tests m e =
-        sym c.found
-        ∙ ap (λ (l : List ObjectRecord). bitmap_at scratch at l id) (drop-next rs i no_record m)
-        ∙ ap
-        (λ (b : Bool). pick b (Some (image_at scratch at (get_or rs i no_record))) (bitmap_at scratch (at + record_area (get_or rs i no_record)) (drop (i + 1) rs) id))
-        e
-
-    split : i < length rs → records_area (drop i rs) ≡ record_area (get_or rs i no_record) + records_area (drop (i + 1) rs)
-    split m = ap records_area (drop-next rs i no_record m)
-
-    -- its bitmap, as the code lends it
-    pub sees-here : i < length rs → (get_or rs i no_record).id ≡ id → {size : Dimensions} → size ≡ record_size (get_or rs i no_record)
-        → {area : ℕ} → area ≡ size.width * size.height
-        → bitmap_at scratch from rs id ≡ Some (image_of size.width size.height (take (at + area - at) (drop at scratch)))
-    sees-here m e {size} es {area} ea =
-        tests m (eq-eqb (get_or rs i no_record).id id e)
-        ∙ (λ j. Some (image_of (sym es j).width (sym es j).height (take ((sym es j).width * (sym es j).height) (drop at scratch))))
-        ∙ ap (λ (l : List ℕ). Some (image_of size.width size.height l)) (ap (λ (n : ℕ). take n (drop at scratch)) (sym ea) ∙ sym (lent-part at area scratch))
-
-    pub sees-within : i < length rs → {size : Dimensions} → size ≡ record_size (get_or rs i no_record) → at + size.width * size.height ≤ from + records_area rs
-    sees-within m e = omega (arith, c.room, split m, ap (λ (d : Dimensions). d.width * d.height) e)
-
-    pub sees-on : i < length rs → ((get_or rs i no_record).id ≡ id → ⊥) → {size : Dimensions} → size ≡ record_size (get_or rs i no_record)
-        → {area : ℕ} → area ≡ size.width * size.height → Seeing rs scratch from id (i + 1) (at + area)
-    sees-on m e es ea =
-        rw (ea ∙ ap (λ (d : Dimensions). d.width * d.height) es)
-        (record { within = omega arith; found = sym (tests m (ne_eqb (get_or rs i no_record).id id e)); room = omega (arith, c.room, split m) })
-
-    pub sees-none : length rs ≤ i → bitmap_at scratch from rs id ≡ None
-    sees-none h = sym c.found ∙ ap (λ (l : List ObjectRecord). bitmap_at scratch at l id) (drop_of_length-le rs h)
 
 -- an object that is there has a bitmap, with an index for each pixel
 pub record Found (o : Option Image) : Type 0 where
@@ -153,7 +110,3 @@ module _ {ps : List CompositionObject} {rs : List ObjectRecord} {from : ℕ} {sc
                 call.plane
                 ∙ ap (λ (t : Bool). pick t (painted (table_color table) (index_shown p image) w h plane) plane) met
                 ∙ ap (λ (o : Option Image). painted (table_color table) (index_shown p (image_or o)) w h plane) (sym eb)
-
-    pub painted-all : left ≡ [] → plane ≡ painted_all (table_color table) (look_at scratch from rs) ps w h start
-    painted-all e =
-        ap (λ (l : List CompositionObject). painted_all (table_color table) (look_at scratch from rs) l w h plane) (sym e) ∙ c.shows

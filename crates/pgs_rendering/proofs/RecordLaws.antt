@@ -1,23 +1,20 @@
 -- The tests of the objects of a set, record by record, and what the records say of the objects. Assumes nothing.
-use mathlib.Core.Path.{◌≡◌, refl, sym, ap, ◌∙◌}
+use mathlib.Core.Path.{◌≡◌, refl, ap, ◌∙◌}
 use mathlib.Core.Bool.{Bool, true, false, ◌||◌, ◌&&◌}
 use mathlib.Core.List.{List, [], ◌∷◌, map}
-use Prim.Native.Nat.{ℕ, ◌+◌, ◌-◌, ◌≤◌, ◌<◌}
+use Prim.Native.Nat.{ℕ, ◌+◌, ◌≤◌}
 use native.Mathlib.Omega.{arith}
-use borrow.Author.Tests.{le-leb, lt-leb}
 use lib.Dec.{leb, eqb}
-use lib.ListN.{length, drop, get_or, length-append, drop_of_length-le}
+use lib.ListN.{length, drop, length-append}
 use Rattle.std.proofs.lemmas.List.Sums.{sum_by-cons}
-use Rattle.pgs_base.specs.Outcome.{Verdict, accepted, refused, and_then, unless, pick}
-use Rattle.pgs_base.proofs.Decisions.{leb-same}
+use Rattle.pgs_base.specs.Outcome.{and_then, unless, pick}
 use Rattle.pgs_bitmap_check.specs.Bitmap.{reading_of}
 use Rattle.pgs_pcs.specs.declared.pcs.CompositionObject.{CompositionObject}
 use Rattle.pgs_reassembly.specs.Objects.{Chain, object_id, width_of, height_of, data_of}
 use Rattle.pgs_reassembly.specs.Reassembly.{copied, copied_data, joined_data, object_record, object_records_from, record_data, record_joined}
 use Rattle.pgs_reassembly.specs.declared.ObjectRecord.{ObjectRecord}
-use Rattle.pgs_reassembly.proofs.Lists.{drop-next}
 use Rattle.pgs_rendering.specs.Images.{area_of, bitmaps_verdict, has_object, placements_verdict}
-use Rattle.pgs_rendering.specs.Records.{record_area, records_joined, records_need, record_reading, records_reading, has_record, all_present}
+use Rattle.pgs_rendering.specs.Records.{records_joined, records_need, records_reading, has_record, all_present}
 
 -- the record where a list has none
 abbrev pub no_record : ObjectRecord
@@ -28,59 +25,10 @@ pub record Fitting (rs : List ObjectRecord) (room i left : ℕ) : Type 0 where
   pub within : i ≤ length rs
   pub fits : leb (records_need (drop i rs)) left ≡ leb (records_need rs) room
 
-module _ (rs : List ObjectRecord) (room : ℕ) where
-  pub fitting : Fitting rs room 0 room
-  fitting = record { within = omega arith; fits = refl }
-
-  module _ {i left : ℕ} (c : Fitting rs room i left) where
-    module _ (m : i < length rs) {joined area : ℕ} (j : joined ≡ record_joined (get_or rs i no_record)) (a : area ≡ record_area (get_or rs i no_record)) where
-      need : records_need (drop i rs) ≡ joined + area + records_need (drop (i + 1) rs)
-      need = ap records_need (drop-next rs i no_record m) ∙ (λ k. sym j k + sym a k + records_need (drop (i + 1) rs))
-
-      pub fits_not : left < joined + area → false ≡ leb (records_need rs) room
-      fits_not h = sym (lt-leb (records_need (drop i rs)) left (omega (arith, need))) ∙ c.fits
-
-      pub fits_on : joined + area ≤ left → Fitting rs room (i + 1) (left - joined - area)
-      fits_on h =
-          record {
-            within = omega arith;
-            fits =
-                leb-same (records_need (drop (i + 1) rs)) (left - joined - area) (records_need (drop i rs)) left (λ p. omega (arith, need)) (λ p. omega (arith, need))
-                ∙ c.fits;
-          }
-
-    pub fits_all : length rs ≤ i → true ≡ leb (records_need rs) room
-    fits_all h = sym (le-leb 0 left (omega arith)) ∙ ap (λ (l : List ObjectRecord). leb (records_need l) left) (sym (drop_of_length-le rs h)) ∙ c.fits
-
 -- i bitmaps are read, and are accepted
 pub record Reading (s scratch : List ℕ) (rs : List ObjectRecord) (i : ℕ) : Type 0 where
   pub within : i ≤ length rs
   pub verdict : records_reading s scratch (drop i rs) ≡ records_reading s scratch rs
-
-module _ (s scratch : List ℕ) (rs : List ObjectRecord) where
-  pub reading : Reading s scratch rs 0
-  reading = record { within = omega arith; verdict = refl }
-
-  module _ {i : ℕ} (c : Reading s scratch rs i) where
-    module _ (m : i < length rs) {bytes : List ℕ} (e : bytes ≡ record_data s scratch (get_or rs i no_record)) where
-      its-reading : {v : Verdict} → v ≡ (reading_of bytes (get_or rs i no_record).width (get_or rs i no_record).height).verdict → v ≡ record_reading s scratch (get_or rs i no_record)
-      its-reading q = q ∙ ap (λ (l : List ℕ). (reading_of l (get_or rs i no_record).width (get_or rs i no_record).height).verdict) e
-
-      decides : {v : Verdict} → v ≡ (reading_of bytes (get_or rs i no_record).width (get_or rs i no_record).height).verdict
-          → and_then v (records_reading s scratch (drop (i + 1) rs)) ≡ records_reading s scratch rs
-      decides q =
-          ap (λ (v : Verdict). and_then v (records_reading s scratch (drop (i + 1) rs))) (its-reading q)
-          ∙ ap (records_reading s scratch) (sym (drop-next rs i no_record m))
-          ∙ c.verdict
-
-      pub reads-not : {k : ℕ} → refused k ≡ (reading_of bytes (get_or rs i no_record).width (get_or rs i no_record).height).verdict → refused k ≡ records_reading s scratch rs
-      reads-not q = decides q
-
-      pub reads_on : accepted ≡ (reading_of bytes (get_or rs i no_record).width (get_or rs i no_record).height).verdict → Reading s scratch rs (i + 1)
-      reads_on q = record { within = omega arith; verdict = decides q }
-
-    pub reads_all : length rs ≤ i → accepted ≡ records_reading s scratch rs
-    reads_all h = ap (records_reading s scratch) (sym (drop_of_length-le rs h)) ∙ c.verdict
 
 -- the joined bytes of an object's record are its copied data
 record-copied : (at : ℕ) (c : Chain) → record_joined (object_record at c) ≡ length (copied_data c)
@@ -135,11 +83,3 @@ present-of at cs (p ∷ ps) = go (has_record (object_records_from at cs) p.objec
         → unless 33 (b && all_present (object_records_from at cs) ps) ≡ and_then (unless 33 (has_object cs p.object_id)) (placements_verdict (has_object cs) ps)
     go true e ih = ih ∙ ap (λ (b : Bool). and_then (unless 33 b) (placements_verdict (has_object cs) ps)) e
     go false e ih = ap (λ (b : Bool). and_then (unless 33 b) (placements_verdict (has_object cs) ps)) e
-
--- 24 to 32, then 33, as the code tests them
-module _ {read : Verdict} where
-  pub content-refused : (there : Bool) {k : ℕ} → refused k ≡ read → refused k ≡ and_then read (unless 33 there)
-  content-refused there e = ap (λ (v : Verdict). and_then v (unless 33 there)) e
-
-  pub content-tested : (there : Bool) {b : Bool} → accepted ≡ read → b ≡ there → unless 33 b ≡ and_then read (unless 33 there)
-  content-tested there e q = λ j. and_then (e j) (unless 33 (q j))

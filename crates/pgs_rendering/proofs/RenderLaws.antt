@@ -6,11 +6,12 @@ use mathlib.Core.Option.{Option, none, some}
 use Prim.Native.Nat.{ℕ, ◌+◌, ◌*◌, ◌≤◌, ◌<◌}
 use native.Mathlib.Omega.{arith}
 use borrow.Author.Tests.{le-leb, lt-leb, leb-true}
-use lib.Dec.{leb}
+use lib.Dec.{leb, ltb}
 use lib.ListN.{length, take, drop, length-append}
 use lib.Seq.{take_at, drop_at, drop-drop}
 use Rattle.pgs_base.specs.Bytes.{Bytes}
-use Rattle.pgs_base.specs.Outcome.{Verdict, accepted, refused, Outcome, outcome_of, and_then, unless, needing, laid, pick}
+use Rattle.pgs_base.specs.declared.dimensions.Dimensions.{Dimensions}
+use Rattle.pgs_base.specs.Outcome.{Verdict, accepted, refused, outcome_of, and_then, unless, needing, laid, pick}
 use Rattle.pgs_base.proofs.Outcomes.{first-accepts, second_holds, holds}
 use Rattle.pgs_bitmap_check.specs.Bitmap.{reading_of, bitmap_of}
 use Rattle.pgs_bitmap.proofs.BitmapArea.{bitmap-area}
@@ -26,8 +27,10 @@ use Rattle.pgs_plane.proofs.StripLaws.{strip-length}
 use Rattle.pgs_pcs.specs.declared.pcs.CompositionObject.{CompositionObject}
 use Rattle.pgs_pcs.specs.declared.pcs.Pcs.{Pcs}
 use Rattle.pgs_reassembly.specs.Objects.{Chain, data_of, width_of, height_of, objects_of, objects_verdict}
-use Rattle.pgs_set.specs.Sets.{set_number, DisplaySet, through_end}
-use Rattle.pgs_reassembly.specs.Reassembly.{joined_data, object_records, Reassembled, record_data}
+use Rattle.pgs_reassembly.specs.Objects.{chains_of, fragments_verdict, object_limit}
+use Rattle.pgs_reassembly.specs.Tables.{fragments_left}
+use Rattle.pgs_set.specs.Sets.{set_number, DisplaySet, through_end, sets_verdict, set_count}
+use Rattle.pgs_reassembly.specs.Reassembly.{joined_data, object_records, Joined, record_data}
 use Rattle.pgs_reassembly.specs.declared.ObjectRecord.{ObjectRecord}
 use Rattle.pgs_set.specs.Walks.{pieces_at}
 use Rattle.pgs_reassembly.proofs.ViewLaws.{record-data}
@@ -38,7 +41,7 @@ use Rattle.pgs_rendering.specs.Records.{records_joined, records_need, records_ar
 use Rattle.pgs_rendering.specs.Steps.{Listed, Composed, JoinedAndRead, Ready, Showing}
 use Rattle.pgs_rendering.proofs.ColorLaws.{empty-shown}
 use Rattle.pgs_rendering.proofs.EntryLaws.{few-ids}
-use Rattle.pgs_rendering.proofs.ObjectLaws.{area_of_lem, bitmaps-of, records-held, few-accepted}
+use Rattle.pgs_rendering.proofs.ObjectLaws.{area_of_lem, bitmaps-of, records-held}
 use Rattle.pgs_rendering.proofs.RecordLaws.{need-of, total_of, reading-of, present-of}
 use Rattle.pgs_rendering.proofs.ShownLaws.{look-same}
 
@@ -109,25 +112,25 @@ module _ (k : ℕ) (s : List ℕ) where
         pub scratch-room : length (joined_data (objects_of k s)) + area_of (objects_of k s) ≤ length scratch
         scratch-room = leb-true (length (joined_data (objects_of k s)) + area_of (objects_of k s)) (length scratch) (fits-as ∙ f)
 
-        module _ {pcs : Pcs} (p : pcs ≡ composition_of (set_number k s)) where
-          plane-need : 4 * (composition_of (set_number k s)).width * (composition_of (set_number k s)).height ≡ 4 * pcs.width * pcs.height
-          plane-need = ap (λ (x : Pcs). 4 * x.width * x.height) (sym p)
+        module _ {size : Dimensions} (p : size ≡ (answer_of (set_number k s)).size) where
+          plane-need : 4 * (composition_of (set_number k s)).width * (composition_of (set_number k s)).height ≡ 4 * size.width * size.height
+          plane-need = ap (λ (x : Dimensions). 4 * x.width * x.height) (sym p)
 
-          pub plane-short : length plane < 4 * pcs.width * pcs.height → early_verdict (objects_verdict k s) (set_number k s) (objects_of k s) (length scratch) (length plane) ≡ refused 34
+          pub plane-short : length plane < 4 * size.width * size.height → early_verdict (objects_verdict k s) (set_number k s) (objects_of k s) (length scratch) (length plane) ≡ refused 34
           plane-short h =
               λ j.
               and_then (l.taken j)
               (and_then (unless 34 ((fits-as ∙ f) j))
-              (unless 34 ((ap (λ (n : ℕ). leb n (length plane)) plane-need ∙ lt-leb (4 * pcs.width * pcs.height) (length plane) h) j)))
+              (unless 34 ((ap (λ (n : ℕ). leb n (length plane)) plane-need ∙ lt-leb (4 * size.width * size.height) (length plane) h) j)))
 
-          pub all_room : 4 * pcs.width * pcs.height ≤ length plane → early_verdict (objects_verdict k s) (set_number k s) (objects_of k s) (length scratch) (length plane) ≡ accepted
+          pub all_room : 4 * size.width * size.height ≤ length plane → early_verdict (objects_verdict k s) (set_number k s) (objects_of k s) (length scratch) (length plane) ≡ accepted
           all_room h =
               λ j.
               and_then (l.taken j)
               (and_then (unless 34 ((fits-as ∙ f) j))
-              (unless 34 ((ap (λ (n : ℕ). leb n (length plane)) plane-need ∙ le-leb (4 * pcs.width * pcs.height) (length plane) h) j)))
+              (unless 34 ((ap (λ (n : ℕ). leb n (length plane)) plane-need ∙ le-leb (4 * size.width * size.height) (length plane) h) j)))
 
-          pub readied : 4 * pcs.width * pcs.height ≤ length plane → {scratch' : List ℕ} {v : Verdict} → JoinedAndRead k s scratch scratch' v
+          pub readied : 4 * size.width * size.height ≤ length plane → {scratch' : List ℕ} {v : Verdict} → JoinedAndRead k s scratch scratch' v
               → v ≡ accepted → length scratch' ≡ length scratch → {joined : ℕ} → joined ≡ records_joined rs → Ready k s joined scratch' plane
           readied h {scratch'} w a long {joined} j =
               record {
@@ -144,18 +147,15 @@ module _ (k : ℕ) (s : List ℕ) where
               }
 
     -- the data joined by the call that does it
-    pub joins : {A : Type 0} {made : ObjectRecord → A} {n : Outcome ℕ} {list list' : List A} {scratch scratch' : List ℕ} → length list ≡ 64
+    pub joins : {body : List ℕ} {pts from : ℕ} → Composed k s body pts from → {scratch scratch' : List ℕ} {v : Verdict}
         → length (joined_data (objects_of k s)) ≤ length scratch
-        → Reassembled made (objects_verdict k s) (objects_of k s) list list' scratch scratch' n
+        → Joined (fragments_verdict object_limit (fragments_left s from)) (chains_of (fragments_left s from)) scratch scratch' v
         → scratch' ≡ laid accepted (joined_data (objects_of k s)) scratch
-    joins {list = list} {scratch = scratch} few room d =
-        d.written
-        ∙ (λ j. laid
-        (and_then (l.taken j)
-        (and_then
-        (unless 34 (le-leb (length (objects_of k s)) (length list) (omega (arith, few-accepted k s l.taken)) j))
-        (unless 34 (le-leb (length (joined_data (objects_of k s))) (length scratch) room j))))
-        (joined_data (objects_of k s)) scratch)
+    unfolding objects_of
+    joins o {scratch} room d =
+        let fits = second_holds (unless 36 (ltb k (set_count s))) _ (second_holds (sets_verdict s) _ l.taken) in
+        (rw o.fragments at d).written
+        ∙ (λ j. laid (and_then (fits j) (unless 34 (le-leb (length (joined_data (objects_of k s))) (length scratch) room j))) (joined_data (objects_of k s)) scratch)
 
     -- 24 to 33
     pub reads-content : {placements : List CompositionObject} → placements ≡ placements_in (set_number k s) → {scratch scratch' : List ℕ}
@@ -230,24 +230,25 @@ module _ (k : ℕ) (s : List ℕ) where
               ∙ empty-shown (entries_among pcs.palette_id (through_end (pieces_at s from))) (few-ids pcs.palette_id s from h) i
               ∙ ap (λ (es : List Entry). color_shown rgb_of es i) entries
 
-          pub ready-painted : {placements : List CompositionObject} → placements ≡ placements_in (set_number k s)
-              → {answer : Verdict} {cleared' plane' : List ℕ} → Clears pcs.width pcs.height plane answer cleared'
-              → plane' ≡ painted_all (table_color t) (look_at scratch' joined rs) placements pcs.width pcs.height cleared'
+          pub ready-painted : {size : Dimensions} → size ≡ (answer_of (set_number k s)).size
+              → {placements : List CompositionObject} → placements ≡ placements_in (set_number k s)
+              → {answer : Verdict} {cleared' plane' : List ℕ} → Clears size.width size.height plane answer cleared'
+              → plane' ≡ painted_all (table_color t) (look_at scratch' joined rs) placements size.width size.height cleared'
               → plane' ≡ laid accepted (picture_of (colors_in rgb_of (set_number k s)) (look_in (objects_of k s)) (set_number k s)) plane
-          ready-painted ep c q =
+          ready-painted {size} es ep c q =
               q
               ∙ (λ j.
-              painted_all (table_color t) (look_at scratch' joined rs) (ep j) pcs.width pcs.height
-              ((c.plane ∙ ap (λ (b : Bool). pick b (cleared pcs.width pcs.height plane) plane) (le-leb (4 * pcs.width * pcs.height) (length plane) room)) j))
-              ∙ last-wins (table_color t) (λ i. refl) (look_at scratch' joined rs) (placements_in (set_number k s)) pcs.width pcs.height plane
+              painted_all (table_color t) (look_at scratch' joined rs) (ep j) size.width size.height
+              ((c.plane ∙ ap (λ (b : Bool). pick b (cleared size.width size.height plane) plane) (le-leb (4 * size.width * size.height) (length plane) room)) j))
+              ∙ last-wins (table_color t) (λ i. refl) (look_at scratch' joined rs) (placements_in (set_number k s)) size.width size.height plane
               ∙ (λ j.
-              plane_shown (λ i. colors i j) (λ id. looks id j) (placements_in (set_number k s)) (p j).width (p j).height
-              ++ drop (4 * (p j).width * (p j).height) plane)
+              plane_shown (λ i. colors i j) (λ id. looks id j) (placements_in (set_number k s)) (es j).width (es j).height
+              ++ drop (4 * (es j).width * (es j).height) plane)
               ∙ ap (λ (n : ℕ). picture_of (colors_in rgb_of (set_number k s)) (look_in (objects_of k s)) (set_number k s) ++ drop n plane)
               (sym (picture-length rgb_of (set_number k s) (objects_of k s)))
             where
-              room : 4 * pcs.width * pcs.height ≤ length plane
-              room = omega (arith, ap (λ (x : Pcs). 4 * x.width * x.height) p, r.plane_room)
+              room : 4 * size.width * size.height ≤ length plane
+              room = omega (arith, ap (λ (x : Dimensions). 4 * x.width * x.height) es, r.plane_room)
 
   -- how painting ends
   module _ {scratch plane : List ℕ} where

@@ -1,11 +1,11 @@
 -- A bitmap stored in the scratch, from data in the stream or before it in the scratch. Assumes nothing.
 use mathlib.Core.Path.{◌≡◌, refl, sym, ap, ◌∙◌}
 use mathlib.Core.Bool.{Bool, true, false, ◌&&◌}
-use mathlib.Core.List.{List, [], ◌++◌, append_assoc}
+use mathlib.Core.List.{List, ◌++◌, append_assoc}
 use Prim.Native.Nat.{ℕ, ◌+◌, ◌-◌, ◌≤◌, ◌<◌}
 use native.Mathlib.Omega.{arith}
 use borrow.Author.Tests.{le-leb}
-use lib.ListN.{length, take, drop, get_or, length-append, length-drop, drop_of_length-le, take-append-drop}
+use lib.ListN.{length, take, drop, get_or, length-append, length-drop}
 use lib.Seq.{drop-drop, drop_at, take_at, take_all, take-take, take-append-le, length-take-le}
 use Rattle.pgs_base.specs.Outcome.{accepted, and_then, pick}
 use Rattle.pgs_bitmap_check.specs.Bitmap.{reading_of, bitmap_of}
@@ -40,7 +40,8 @@ shown-scratch s x r at held e room =
     ∙ sym (pick_first (part_of r.place r.len x) (part_of r.place r.len s) e)
 
 module _ (s : List ℕ) (r : ObjectRecord) (at : ℕ) (scratch : List ℕ) (st : Storable s r at scratch) where
-  pub stored_stream : r.copied ≡ false → (other : List ℕ) {bytes part part' : List ℕ} (n : ℕ) → n ≡ record_area r → bytes ≡ record_data s other r → part ≡ take n (drop at scratch)
+  pub stored_stream : r.copied ≡ false → (other : List ℕ) {bytes part part' : List ℕ} (n : ℕ) → n ≡ record_area r
+      → bytes ≡ record_data s other r → part ≡ take n (drop at scratch)
       → part' ≡ padded_to (length part) (bitmap_of bytes)
       → take at scratch ++ (part' ++ drop n (drop at scratch)) ≡ take at scratch ++ (bitmap_of (record_data s scratch r) ++ drop (at + record_area r) scratch)
   stored_stream e other {bytes} {part} n area eb ep d =
@@ -134,9 +135,6 @@ pub record Storing (s : List ℕ) (rs : List ObjectRecord) (from : ℕ) (start n
   pub reads : records_reading s start (drop i rs) ≡ accepted
 
 module _ (s : List ℕ) (rs : List ObjectRecord) (from : ℕ) (start : List ℕ) (all : AllStorable s rs from start) where
-  pub storing : Storing s rs from start start 0 from
-  storing = record { within = omega arith; place = refl; past = omega arith; same = refl; front = refl; left = refl; reads = all.reads }
-
   module _ {now : List ℕ} {i at : ℕ} (c : Storing s rs from start now i at) where
     module _ (m : i < length rs) where
       its-held : Held from (get_or rs i no_record)
@@ -218,17 +216,3 @@ module _ (s : List ℕ) (rs : List ObjectRecord) (from : ℕ) (start : List ℕ)
               ∙ ap (drop (records_area (drop (i + 1) rs))) (ap (drop (at + area)) e ∙ put-drop now new at area fits size)
               ∙ drop-drop (records_area (drop (i + 1) rs)) (at + area) now
               ∙ ap (λ (n : ℕ). drop n now) far
-
-    pub stored-all : length rs ≤ i → now ≡ take from start ++ (records_bitmaps s start rs ++ drop (from + records_area rs) start)
-    stored-all h =
-        sym (take-append-drop at now)
-        ∙ (λ j. take at now ++ drop (end j) now)
-        ∙ ap (λ (l : List ObjectRecord). take at now ++ (records_bitmaps s start l ++ drop (from + records_area rs) now))
-        (sym none)
-        ∙ c.left
-      where
-        none : drop i rs ≡ []
-        none = drop_of_length-le rs h
-
-        end : at ≡ from + records_area rs
-        end = omega (arith, c.place, ap records_area none)

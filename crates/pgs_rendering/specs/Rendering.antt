@@ -16,6 +16,7 @@ use Rattle.pgs_reassembly.specs.Reassembly.{joined_data}
 use Rattle.pgs_set.specs.Sets.{DisplaySet}
 use Rattle.pgs_rendering.specs.Images.{look_in, bitmaps_of, area_of, bitmaps_verdict, has_object, placements_verdict}
 use Rattle.pgs_rendering.specs.Palettes.{entries_among, color_shown}
+use Rattle.pgs_rendering.specs.declared.Shown.{Shown}
 
 -- the numbers of a set's PCS, and its placements
 abbrev pub composition_of : DisplaySet → Pcs
@@ -54,12 +55,12 @@ abbrev pub left_by : Verdict → List Chain → List ℕ
 left_by content cs = joined_data cs ++ pick (is_accepted content) (bitmaps_of cs) []
 
 -- width and height of the plane, and the PTS of the PCS: as the Rust's `RenderedDisplaySet`; 01 does not say
-abbrev pub answer_of : DisplaySet → ℕ × ℕ × ℕ
-answer_of d = ((composition_of d).width, (composition_of d).height, pts_of d.opening)
+abbrev pub answer_of : DisplaySet → Shown
+answer_of d = record { size = record { width = (composition_of d).width; height = (composition_of d).height }; pts = pts_of d.opening }
 
 -- what painting a set promises, by a conversion of colours, where finding its objects has this verdict
 pub record Rendered (convert : Conversion) (verdict : Verdict) (d : DisplaySet) (cs : List Chain) (scratch scratch' plane plane' : List ℕ)
-    (answer : Outcome (ℕ × ℕ × ℕ)) : Type 0 where
+    (answer : Outcome Shown) : Type 0 where
   pub answered : answer ≡ outcome_of (render_verdict verdict d cs (length scratch) (length plane)) (answer_of d)
   pub stored : scratch' ≡ laid (early_verdict verdict d cs (length scratch) (length plane)) (left_by (content_verdict d cs) cs) scratch
   pub shown : plane' ≡ laid (render_verdict verdict d cs (length scratch) (length plane)) (picture_of (colors_in convert d) (look_in cs) d) plane

@@ -4,9 +4,10 @@ use Rattle.pgs_base.specs.Outcome.{Verdict, accepted, laid}
 use Rattle.pgs_color.specs.Bytes.{rgb_of}
 use Rattle.pgs_segment.specs.Header.{pts_of}
 use Rattle.pgs_segment.specs.OneSegment.{body_at}
-use Rattle.pgs_reassembly.specs.Objects.{objects_of, objects_verdict}
+use Rattle.pgs_reassembly.specs.Objects.{fragments_of, objects_of, objects_verdict}
 use Rattle.pgs_set.specs.Sets.{set_number, through_end}
 use Rattle.pgs_reassembly.specs.Reassembly.{joined_data, object_records}
+use Rattle.pgs_reassembly.specs.Tables.{fragments_left}
 use Rattle.pgs_reassembly.specs.declared.ObjectRecord.{ObjectRecord}
 use Rattle.pgs_set.specs.Walks.{pieces_at}
 use Rattle.pgs_rendering.specs.Images.{look_in, area_of}
@@ -22,6 +23,7 @@ pub record Composed (k : ℕ) (s body : List ℕ) (pts from : ℕ) : Type 0 wher
   pub whole : body ≡ body_at (set_number k s).opening
   pub time : pts ≡ pts_of (set_number k s).opening
   pub others : through_end (pieces_at s from) ≡ (set_number k s).others
+  pub fragments : fragments_left s from ≡ fragments_of (set_number k s)
 
 -- joining the data and testing 24 to 33, with this verdict
 pub record JoinedAndRead (k : ℕ) (s scratch scratch' : List ℕ) (verdict : Verdict) : Type 0 where

@@ -4,13 +4,15 @@ use pgs_cells::pcs::pcs_cells;
 use pgs_cells::pds::pds_cells;
 use pgs_cells_ods::ods::ods_cells;
 use pgs_ods::ods::Ods;
+use pgs_palette::palette::Rgba8;
 use pgs_pcs::pcs::Pcs;
 use pgs_pds::pds::Pds;
 use pgs_records::BodyList;
+use pgs_rendering::Shown;
 use std::fmt::Display;
 use std::io;
 
-// What an accepted call gives.
+// What a call gives that is not refused.
 pub(crate) trait Given: Drop {
     fn print(self, rt: &impl Print) -> io::Result<()>;
 }
@@ -37,10 +39,10 @@ impl Given for (usize, usize) {
 }
 
 // A plane's width and height, and its PTS.
-impl Given for (u16, u16, u32) {
+impl Given for Shown {
     fn print(self, rt: &impl Print) -> io::Result<()> {
-        let (width, height, pts) = self;
-        print!(rt; " {width} {height} {pts}")
+        let Shown { size, pts } = self;
+        print!(rt; " {} {} {pts}", size.width, size.height)
     }
 }
 
@@ -70,8 +72,34 @@ impl Given for (Ods, BodyList) {
     }
 }
 
-pub(crate) fn refused(rt: &impl Print, why: Refusal) -> io::Result<()> {
-    print!(rt; " refused {}", why.number())
+// A colour of a table.
+impl Given for Rgba8 {
+    fn print(self, rt: &impl Print) -> io::Result<()> {
+        let Rgba8 { r, g, b, a } = self;
+        record(rt, &[r, g, b, a])
+    }
+}
+
+// A record of a list.
+impl<N: Display + Drop, const LEN: usize> Given for [N; LEN] {
+    fn print(self, rt: &impl Print) -> io::Result<()> {
+        record(rt, &self)
+    }
+}
+
+// What a call answered: the word and what it gave, or why it was refused.
+pub(crate) fn outcome(
+    rt: &impl Print,
+    word: &str,
+    answer: Result<impl Given, Refusal>,
+) -> io::Result<()> {
+    match answer {
+        Ok(given) => {
+            print!(rt; "{word}")?;
+            given.print(rt)
+        }
+        Err(why) => print!(rt; " refused {why}"),
+    }
 }
 
 // The name of a call, and what it answered.
@@ -81,13 +109,7 @@ pub(crate) fn answer(
     answer: Result<impl Given, Refusal>,
 ) -> io::Result<()> {
     print!(rt; "{name}")?;
-    match answer {
-        Ok(given) => {
-            print!(rt; " accepted")?;
-            given.print(rt)
-        }
-        Err(why) => refused(rt, why),
-    }
+    outcome(rt, " accepted", answer)
 }
 
 pub(crate) fn record(rt: &impl Print, numbers: &[impl Display]) -> io::Result<()> {
@@ -98,12 +120,10 @@ pub(crate) fn record(rt: &impl Print, numbers: &[impl Display]) -> io::Result<()
     Ok(())
 }
 
-pub(crate) fn records<N: Display, const LEN: usize>(
-    rt: &impl Print,
-    list: &[[N; LEN]],
-) -> io::Result<()> {
-    for numbers in list {
-        record(rt, numbers)?;
+// The records of a list.
+pub(crate) fn records<R: Given + Copy>(rt: &impl Print, list: &[R]) -> io::Result<()> {
+    for record in list {
+        record.print(rt)?;
     }
     Ok(())
 }
@@ -117,26 +137,34 @@ pub(crate) fn bytes(rt: &impl Print, buffer: &[u8]) -> io::Result<()> {
     Ok(())
 }
 
-// The line of a call that fills a list.
-pub(crate) fn listed<N: Display, const LEN: usize>(
+// The line of a call that fills a list: its answer, then the list.
+pub(crate) fn listed<R: Given + Copy, G: Given, F>(
     rt: &impl Print,
     name: &str,
-    given: Result<impl Given, Refusal>,
-    list: &[[N; LEN]],
-) -> io::Result<()> {
-    answer(rt, name, given)?;
+    list: &mut [R],
+    call: F,
+) -> io::Result<()>
+where
+    F: FnOnce(&mut [R]) -> Result<G, Refusal>,
+    requires { F.IsAlwaysCallable call }
+{
+    answer(rt, name, call(list))?;
     records(rt, list)?;
     println!(rt; "")
 }
 
-// The line of a call that fills a buffer.
-pub(crate) fn stored(
+// The line of a call that fills a buffer: its answer, then the buffer.
+pub(crate) fn stored<G: Given, F>(
     rt: &impl Print,
     name: &str,
-    given: Result<impl Given, Refusal>,
-    buffer: &[u8],
-) -> io::Result<()> {
-    answer(rt, name, given)?;
+    buffer: &mut [u8],
+    call: F,
+) -> io::Result<()>
+where
+    F: FnOnce(&mut [u8]) -> Result<G, Refusal>,
+    requires { F.IsAlwaysCallable call }
+{
+    answer(rt, name, call(buffer))?;
     bytes(rt, buffer)?;
     println!(rt; "")
 }

@@ -1,12 +1,11 @@
 // The calls that read. Lists and buffers are full of 9s before.
 use crate::print;
-use pgs_base::refusal::Refusal;
 use pgs_bitmap::bitmap::decode_rle;
 use pgs_cards::cards::write_cards;
 use pgs_color::ycbcr::{Rgb8, ycbcr709_to_rgb};
 use pgs_object::object::reassemble_objects;
 use pgs_ods::ods::Ods;
-use pgs_palette::palette::{Rgba8, TABLE_LEN, apply, clear, get};
+use pgs_palette::palette::{TABLE_LEN, apply, clear, get};
 use pgs_pcs::pcs::Pcs;
 use pgs_pds::pds::Pds;
 use pgs_render::render::render;
@@ -16,44 +15,39 @@ use pgs_wds::wds::Wds;
 use std::io;
 
 pub(crate) fn segments(rt: &impl Print, input: &[u8]) -> io::Result<()> {
-    let mut list = [[9u64; 5]; 6];
-    let answer = parse_segments(input, &mut list);
-    print::listed(rt, "segments", answer, &list)
+    print::listed(
+        rt,
+        "segments",
+        &mut [[9u64; 5]; 6],
+        |list| parse_segments(input, list),
+    )
 }
 
 pub(crate) fn pcs(rt: &impl Print, input: &[u8]) -> io::Result<()> {
-    let mut list = [[9u16; 10]; 3];
-    let answer = Pcs::parse(input, &mut list);
-    print::listed(rt, "pcs", answer, &list)
+    print::listed(
+        rt,
+        "pcs",
+        &mut [[9u16; 10]; 3],
+        |list| Pcs::parse(input, list),
+    )
 }
 
 pub(crate) fn wds(rt: &impl Print, input: &[u8]) -> io::Result<()> {
-    let mut list = [[9u16; 5]; 3];
-    let answer = Wds::parse(input, &mut list);
-    print::listed(rt, "wds", answer, &list)
-}
-
-fn print_update(rt: &impl Print, update: Result<(), Refusal>) -> io::Result<()> {
-    match update {
-        Ok(()) => print!(rt; " done"),
-        Err(why) => print::refused(rt, why),
-    }
-}
-
-fn print_index(rt: &impl Print, table: &[u8], index: u8) -> io::Result<()> {
-    match get(table, index) {
-        Ok(Rgba8 { r, g, b, a }) => print::record(rt, &[r, g, b, a]),
-        Err(why) => print::refused(rt, why),
-    }
+    print::listed(
+        rt,
+        "wds",
+        &mut [[9u16; 5]; 3],
+        |list| Wds::parse(input, list),
+    )
 }
 
 // The colours of indices 0 to 3 where entries are laid over a cleared table.
 fn print_colors(rt: &impl Print, entries: &[[u8; 5]], id: u8, named: u8) -> io::Result<()> {
     let mut table = [9u8; TABLE_LEN];
-    print_update(rt, clear(&mut table))?;
-    print_update(rt, apply(entries, id, named, &mut table))?;
+    print::outcome(rt, " done", clear(&mut table))?;
+    print::outcome(rt, " done", apply(entries, id, named, &mut table))?;
     for index in 0..4 {
-        print_index(rt, &table, index)?;
+        print::outcome(rt, "", get(&table, index))?;
     }
     Ok(())
 }
@@ -81,9 +75,12 @@ pub(crate) fn ods(rt: &impl Print, input: &[u8]) -> io::Result<()> {
 }
 
 pub(crate) fn sets(rt: &impl Print, input: &[u8]) -> io::Result<()> {
-    let mut list = [[9u64; 3]; 3];
-    let answer = parse_display_sets(input, &mut list);
-    print::listed(rt, "sets", answer, &list)
+    print::listed(
+        rt,
+        "sets",
+        &mut [[9u64; 3]; 3],
+        |list| parse_display_sets(input, list),
+    )
 }
 
 // The objects of a set.
@@ -98,15 +95,16 @@ pub(crate) fn objects(rt: &impl Print, input: &[u8], set: u16) -> io::Result<()>
 }
 
 pub(crate) fn cards(rt: &impl Print, input: &[u8]) -> io::Result<()> {
-    let mut out = [9u8; 71];
-    let answer = write_cards(input, &mut out);
-    print::stored(rt, "cards", answer, &out)
+    print::stored(rt, "cards", &mut [9u8; 71], |out| write_cards(input, out))
 }
 
 pub(crate) fn bitmap(rt: &impl Print, input: &[u8], width: u16, height: u16) -> io::Result<()> {
-    let mut pixels = [9u8; 20];
-    let answer = decode_rle(input, width, height, &mut pixels);
-    print::stored(rt, "bitmap", answer, &pixels)
+    print::stored(
+        rt,
+        "bitmap",
+        &mut [9u8; 20],
+        |pixels| decode_rle(input, width, height, pixels),
+    )
 }
 
 // Y, Cb and Cr.

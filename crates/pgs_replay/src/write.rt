@@ -17,9 +17,12 @@ use std::{array, io};
 
 // The first segments of a stream, written again.
 pub(crate) fn segments(rt: &impl Print, input: &[u8], writes: u16) -> io::Result<()> {
-    let mut out = [9u8; 64];
-    let answer = write_segments(input, usize::from(writes), &mut out);
-    print::stored(rt, "writes", answer, &out)
+    print::stored(
+        rt,
+        "writes",
+        &mut [9u8; 64],
+        |out| write_segments(input, usize::from(writes), out),
+    )
 }
 
 // The two times that each input of a writer begins with.
@@ -40,18 +43,14 @@ pub(crate) fn other(rt: &impl Print, input: &[u8]) -> io::Result<()> {
     if input.len() < 9 {
         return Ok(());
     }
-    let mut out = [9u8; 32];
-    let answer = encode_other(times(input), input[8], &input[9..], &mut out);
-    print::stored(rt, "write", answer, &out)
-}
-
-fn write_ods(
-    times: Timestamps,
-    cells: [u32; 7],
-    data: &[u8],
-    out: &mut [u8],
-) -> Result<usize, Refusal> {
-    encode_ods(times, ods_from(cells)?, data, out)
+    let kind = input[8];
+    let data = &input[9..];
+    print::stored(
+        rt,
+        "write",
+        &mut [9u8; 32],
+        |out| encode_other(times(input), kind, data, out),
+    )
 }
 
 // A fragment: its times, its seven cells of 4 bytes each, then its data.
@@ -59,10 +58,11 @@ pub(crate) fn ods(rt: &impl Print, input: &[u8]) -> io::Result<()> {
     if input.len() < 36 {
         return Ok(());
     }
-    let numbers = array::from_fn(|i| u32_at(input, 8 + 4 * i));
-    let mut out = [9u8; 40];
-    let answer = write_ods(times(input), numbers, &input[36..], &mut out);
-    print::stored(rt, "write", answer, &out)
+    let cells = array::from_fn(|i| u32_at(input, 8 + 4 * i));
+    let data = &input[36..];
+    print::stored(rt, "write", &mut [9u8; 40], |out| {
+        encode_ods(times(input), ods_from(cells)?, data, out)
+    })
 }
 
 // An END: its times.
@@ -70,18 +70,25 @@ pub(crate) fn end(rt: &impl Print, input: &[u8]) -> io::Result<()> {
     if input.len() < 8 {
         return Ok(());
     }
-    let mut out = [9u8; 16];
-    let answer = encode_end(times(input), &mut out);
-    print::stored(rt, "write", answer, &out)
+    print::stored(
+        rt,
+        "write",
+        &mut [9u8; 16],
+        |out| encode_end(times(input), out),
+    )
 }
 
-fn write_pcs(
-    times: Timestamps,
-    cells: [u16; 7],
-    placements: &[[u16; 10]],
-    out: &mut [u8],
-) -> Result<usize, Refusal> {
-    encode_pcs(times, pcs_from(cells)?, placements, out)
+// The line of a call that writes the first so many rows of a list; where it has fewer, nothing is written.
+fn rows<R, F>(rt: &impl Print, list: &[R], count: u16, out: &mut [u8], call: F) -> io::Result<()>
+where
+    F: FnOnce(&[R], &mut [u8]) -> Result<usize, Refusal>,
+    requires { F.IsAlwaysCallable call }
+{
+    if let Some(rows) = list.get(..usize::from(count)) {
+        print::answer(rt, "write", call(rows, out))?;
+    }
+    print::bytes(rt, out)?;
+    println!(rt; "")
 }
 
 // A composition: its times, its cells, then room for two placements, of which the first so many are written.
@@ -91,13 +98,9 @@ pub(crate) fn pcs(rt: &impl Print, input: &[u8], count: u16) -> io::Result<()> {
     }
     let numbers = cells(&input[8..]);
     let list = [cells(&input[22..]), cells(&input[42..])];
-    let mut out = [9u8; 60];
-    if let Some(placements) = list.get(..usize::from(count)) {
-        let answer = write_pcs(times(input), numbers, placements, &mut out);
-        print::answer(rt, "write", answer)?;
-    }
-    print::bytes(rt, &out)?;
-    println!(rt; "")
+    rows(rt, &list, count, &mut [9u8; 60], |placements, out| {
+        encode_pcs(times(input), pcs_from(numbers)?, placements, out)
+    })
 }
 
 // Windows: the times, then room for two, of which the first so many are written.
@@ -106,13 +109,13 @@ pub(crate) fn wds(rt: &impl Print, input: &[u8], count: u16) -> io::Result<()> {
         return Ok(());
     }
     let list = [cells(&input[8..]), cells(&input[18..])];
-    let mut out = [9u8; 34];
-    if let Some(windows) = list.get(..usize::from(count)) {
-        let answer = encode_wds(times(input), windows, &mut out);
-        print::answer(rt, "write", answer)?;
-    }
-    print::bytes(rt, &out)?;
-    println!(rt; "")
+    rows(
+        rt,
+        &list,
+        count,
+        &mut [9u8; 34],
+        |windows, out| encode_wds(times(input), windows, out),
+    )
 }
 
 // A palette: its times, its id and version, then room for two entries, of which the first so many are written.
@@ -122,11 +125,11 @@ pub(crate) fn pds(rt: &impl Print, input: &[u8], count: u16) -> io::Result<()> {
     }
     let numbers = pds_from([input[8], input[9]]);
     let (list, _) = input[10..20].as_chunks::<5>();
-    let mut out = [9u8; 28];
-    if let Some(entries) = list.get(..usize::from(count)) {
-        let answer = encode_pds(times(input), numbers, entries, &mut out);
-        print::answer(rt, "write", answer)?;
-    }
-    print::bytes(rt, &out)?;
-    println!(rt; "")
+    rows(
+        rt,
+        list,
+        count,
+        &mut [9u8; 28],
+        |entries, out| encode_pds(times(input), numbers, entries, out),
+    )
 }

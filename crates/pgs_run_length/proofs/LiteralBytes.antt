@@ -3,19 +3,16 @@
 use mathlib.Core.Path.{◌≡◌, refl, ◌∙◌, ap, subst}
 use mathlib.Core.Bool.{Bool, true, false, not, ◌&&◌}
 use mathlib.Core.List.{List}
-use Prim.Native.Nat.{ℕ, zero, suc, ◌+◌, ◌-◌, ◌≤◌, ◌<◌}
+use Prim.Native.Nat.{ℕ, zero, suc, ◌+◌, ◌-◌, ◌<◌}
 use native.Mathlib.Decide.{dec_lt}
 use native.Mathlib.Omega.{arith}
 use lib.Dec.{eqb}
-use lib.ListN.{length, get_or, take, drop, length-drop, get_or-eq_default}
-use lib.Seq.{length-take-le, get_or-take, get_or-drop}
+use lib.ListN.{length, get_or, take, drop}
+use lib.Seq.{get_or-drop}
+use Rattle.pgs_base.proofs.Lists.{to_end}
 use borrow.Author.Count.{below_more}
 use borrow.Author.Tests.{eqb-false, not-true}
 use Rattle.pgs_run_length.specs.Literals.{literals, Literals}
-
-and-false : (b : Bool) → (b && false) ≡ false
-and-false true = refl
-and-false false = refl
 
 module _ (l : List ℕ) (at : ℕ) where
   pub literals-none : Literals l at 0
@@ -49,20 +46,10 @@ module _ (l : List ℕ) (at : ℕ) where
   literals-said zero e = literals-none
   literals-said (suc n) e = subst (Literals l at) {x = n + 1} {y = suc n} (omega arith) (literals-more n (literals l at n) (literals-said n) e)
 
-  -- the part that has eight bytes from a place on
-  abbrev part : List ℕ
-  part = take (at + 8 - at) (drop at l)
+  -- of what stands from the place on, which is also what is left of the list
+  pub literals-behind : (n : ℕ) → Literals (drop at l) 0 n → Literals l at n
+  literals-behind n h k below e =
+      h k below (get_or-drop at l (0 + k) 0 ∙ ap (λ (i : ℕ). get_or l i 0) {x = at + (0 + k)} {y = at + k} (omega arith) ∙ e)
 
-  pub part-length : at + 8 ≤ length l → length part ≡ 8
-  part-length h = length-take-le (at + 8 - at) (drop at l) (rw length-drop (omega arith)) ∙ omega arith
-
-  -- a byte more of it is tested
-  pub literals-read : (n : ℕ) {all : Bool} → at + 8 ≤ length l → n < length part → all ≡ literals l at n
-      → (all && not (eqb (get_or part n 0) 0)) ≡ literals l at (n + 1)
-  literals-read n {all} there h e =
-      let few : n < at + 8 - at = omega (arith, part-length there) in
-      rw (e, get_or-take (at + 8 - at) (drop at l) n 0 few, get_or-drop at l n 0) (ap (literals l at) {x = suc n} {y = n + 1} (omega arith))
-
-  -- one of the bytes is not there
-  pub literals-missing : (n : ℕ) → length l ≤ at + n → false ≡ literals l at (suc n)
-  literals-missing n h = rw (get_or-eq_default l 0 h, and-false (literals l at n))
+  pub literals-left : (n : ℕ) → Literals (take (length l - at) (drop at l)) 0 n → Literals l at n
+  literals-left n h = literals-behind n (subst (λ (m : List ℕ). Literals m 0 n) (to_end at l) h)

@@ -1,14 +1,11 @@
--- What is left of a list from a place on: nothing, or the element there and what is left from the next place on.
+-- What is left of a list from a place on: the element there and what is left from the next place on.
 -- Assumes nothing.
 use mathlib.Core.Path.{◌≡◌, ◌∙◌, ap}
-use mathlib.Core.List.{List, [], ◌∷◌}
-use Prim.Native.Nat.{ℕ, ◌+◌, ◌≤◌, ◌<◌}
+use mathlib.Core.List.{List, ◌∷◌}
+use Prim.Native.Nat.{ℕ, ◌+◌, ◌<◌}
 use native.Mathlib.Numerals.{add-one}
-use lib.ListN.{length, get_or, drop, drop_of_length-le}
+use lib.ListN.{length, get_or, drop}
 use lib.Seq.{drop-cons}
-
-pub left-none : (l : List ℕ) (at : ℕ) → length l ≤ at → drop at l ≡ []
-left-none l at h = drop_of_length-le l h
 
 pub left-some : (l : List ℕ) (at : ℕ) → at < length l → drop at l ≡ get_or l at 0 ∷ drop (at + 1) l
 left-some l at h = rw (add-one, drop-cons l at 0 h)

@@ -2,12 +2,12 @@
 use mathlib.Core.Path.{◌≡◌, ap, ◌∙◌}
 use mathlib.Core.Bool.{true}
 use mathlib.Core.List.{List}
-use Prim.Native.Nat.{ℕ, ◌+◌, ◌-◌, ◌≤◌, ◌<◌}
+use Prim.Native.Nat.{ℕ, ◌+◌, ◌-◌, ◌≤◌}
 use native.Mathlib.Omega.{arith}
-use borrow.Author.Tests.{leb-true, le-leb, lt-leb}
+use borrow.Author.Tests.{leb-true, le-leb}
 use lib.Dec.{leb}
 use lib.ListN.{length, take, drop}
-use Rattle.pgs_base.specs.Outcome.{Verdict, Outcome, accepted, refused, outcome_of, and_then, unless}
+use Rattle.pgs_base.specs.Outcome.{Outcome, accepted, outcome_of, unless}
 use Rattle.pgs_base.proofs.Outcomes.{first_holds, second_holds, first-accepts, holds}
 use Rattle.pgs_segment.specs.Fields.{body_verdict, body_list, body_of, numbers_of}
 use Rattle.pgs_segment.specs.Header.{size_of, marked, header_verdict}
@@ -23,14 +23,7 @@ module _ (l : List ℕ) where
   pub accepted-mark : header_verdict l ≡ accepted → marked l ≡ true
   accepted-mark e = holds 2 (marked l) (second_holds (unless 1 (leb 13 (length l))) _ e)
 
-  -- a refused head decides
-  pub head-decides : {k : ℕ} → header_verdict l ≡ refused k → segment_verdict l ≡ refused k
-  head-decides e = ap (λ (v : Verdict). and_then v (and_then (unless 3 (leb (used_by l) (length l))) (body_verdict (segment_type l) (body_at l)))) e
-
-  pub body-past-end : header_verdict l ≡ accepted → length l < used_by l → segment_verdict l ≡ refused 3
-  body-past-end e h = simp (e, lt-leb (used_by l) (length l) h)
-
-  -- then the body decides
+  -- after the head the body decides
   pub body-decides : header_verdict l ≡ accepted → used_by l ≤ length l → segment_verdict l ≡ body_verdict (segment_type l) (body_at l)
   body-decides e h = simp (e, le-leb (used_by l) (length l) h)
 
@@ -43,9 +36,6 @@ module _ (l : List ℕ) where
         → o ≡ outcome_of (body_verdict t (take (13 + n - 13) (drop 13 l))) (body_list t (take (13 + n - 13) (drop 13 l)))
         → o ≡ outcome_of (body_verdict (segment_type l) (body_at l)) (body_list (segment_type l) (body_at l))
     lent-body e = e ∙ (λ k. outcome_of (body_verdict (et k) (lent_is n en k)) (body_list (et k) (lent_is n en k)))
-
-    pub lent-verdict : body_verdict (segment_type l) (body_at l) ≡ accepted → body_verdict t (take (13 + n - 13) (drop 13 l)) ≡ accepted
-    lent-verdict e = (λ k. body_verdict (et k) (lent_is n en k)) ∙ e
 
     pub lent-numbers : {s : SegmentBody} → s ≡ numbers_of (body_of t (take (13 + n - 13) (drop 13 l))) → s ≡ numbers_of (body_of (segment_type l) (body_at l))
     lent-numbers e = e ∙ (λ k. numbers_of (body_of (et k) (lent_is n en k)))

@@ -12,6 +12,7 @@ use pgs_views::segment_type::SegmentType;
 pub struct SegmentHeader {
     pub pts: u32,
     pub dts: u32,
+    // Stays a byte, whose kind is `kind`: a `SegmentType::Other` of a caller could hold the byte of a known kind
     pub segment_type: u8,
     pub segment_size: u16,
 }
@@ -36,6 +37,7 @@ impl SegmentHeader {
     }
 
     // The fields of the head at the front of `l`, whatever stands there.
+    #[inline]
     fn fields(l: &[u8]) -> SegmentHeader
         ensures { result ≡ header_fields l.now }
     {
@@ -45,6 +47,14 @@ impl SegmentHeader {
             segment_type: u8_at(l, 10),
             segment_size: u16_at(l, 11),
         }
+    }
+
+    // The same of a list that ends within the head, which no walk meets: a function of its own, so that walks stay small.
+    #[cold]
+    fn fields_there(l: &[u8]) -> SegmentHeader
+        ensures { result ≡ header_fields l.now }
+    {
+        SegmentHeader::fields(l)
     }
 
     // The kind of the segment.
@@ -67,5 +77,9 @@ pub fn header_at(s: &[u8], at: usize) -> SegmentHeader
     ensures { result ≡ header_fields (drop at s.now) }
 {
     let rest = s.get(at..).unwrap_or(&[]);
-    SegmentHeader::fields(rest)
+    // Of a part as long as a head, the fields are read with no test of their places.
+    match rest.get(..SegmentHeader::SIZE) {
+        Some(head) => SegmentHeader::fields(head),
+        None => SegmentHeader::fields_there(rest),
+    }
 }

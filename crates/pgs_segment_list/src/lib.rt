@@ -16,6 +16,7 @@ pub struct SegmentRecord {
     pub place: usize,
     pub pts: u32,
     pub dts: u32,
+    // Stays a byte, as in the head
     pub segment_type: u8,
     pub segment_size: u16,
 }

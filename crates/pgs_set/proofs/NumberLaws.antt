@@ -1,20 +1,19 @@
 -- The set of a number: where it stands, its record, and how finding it ends. Assumes nothing.
 use mathlib.Core.Path.{◌≡◌, sym, ap, subst, ◌∙◌}
 use mathlib.Core.List.{List}
-use Prim.Native.Nat.{ℕ, ◌≤◌, ◌<◌}
-use native.Mathlib.Omega.{arith}
-use borrow.Author.Tests.{lt-ltb, le-ltb}
+use Prim.Native.Nat.{ℕ, ◌<◌}
+use borrow.Author.Tests.{lt-ltb}
 use Rattle.std.specs.Prelude.{Option, Some}
 use Rattle.std.specs.Option.{option_map}
 use Rattle.std.proofs.lemmas.Iterator.Adapters.{option_map_id}
 use Rattle.std.specs.List.{slice_get}
 use Rattle.std.proofs.lemmas.Option.{slice_get-map, slice_get-get_or}
 use lib.ListN.{drop}
-use Rattle.pgs_base.specs.Outcome.{Outcome, accepted, refused, gives, refuses, and_then, unless}
-use Rattle.pgs_base.proofs.Outcomes.{gives_as, refuses-as}
+use Rattle.pgs_base.specs.Outcome.{Outcome, accepted, gives, refuses, and_then, unless}
+use Rattle.pgs_base.proofs.Outcomes.{gives_as}
 use Rattle.pgs_stream.specs.Stream.{step_verdict}
 use Rattle.pgs_set.proofs.SetLaws.{outside-here}
-use Rattle.pgs_set.specs.Sets.{no_set, sets_of, set_number, set_verdict, set_record, set_count, sets_verdict}
+use Rattle.pgs_set.specs.Sets.{no_set, sets_of, set_number, set_record, set_count, sets_verdict}
 use Rattle.pgs_set.specs.Records.{set_records}
 use Rattle.pgs_set.specs.Walks.{SetBegins, SetStands, FoundSet}
 use Rattle.pgs_set.proofs.RecordLaws.{number-stands}
@@ -33,19 +32,8 @@ module _ (s : List ℕ) (k : ℕ) {r : ℕ} (st : SetStands s k r) where
   pub stands-begins : SetBegins s r
   stands-begins = record { standing = st.standing; more = st.more }
 
--- there is no such set
 module _ (s : List ℕ) (k : ℕ) where
-  finds-none : {n : ℕ} → set_verdict k s ≡ refused n → FoundSet s k (refuses n)
-  finds-none e =
-      record {
-        answered = refuses-as (set_record (set_number k s)) e;
-        stands = λ d q. absurd (let z : ◌≡◌ {A = ℕ} 0 1 = cc in omega arith);
-      }
-
-  pub finds_past : sets_verdict s ≡ accepted → set_count s ≤ k → FoundSet s k (refuses 36)
-  finds_past a h = finds-none (λ j. and_then (a j) (unless 36 (le-ltb k (set_count s) h j)))
-
-  -- there is: the record of this number is its own
+  -- a set that is there: the record of this number is its own
   module _ (a : sets_verdict s ≡ accepted) (m : k < set_count s) {r : Option SetRecord} (q : option_map (λ x. x) r ≡ slice_get (set_records s) k) where
     pub number-found : r ≡ Some (set_record (set_number k s))
     number-found =

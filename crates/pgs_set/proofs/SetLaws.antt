@@ -18,7 +18,7 @@ use Rattle.pgs_segment.specs.declared.header.SegmentHeader.{SegmentHeader}
 use Rattle.pgs_views.specs.declared.segment_type.SegmentType.{SegmentType}
 use Rattle.pgs_views.specs.declared.segment_type.SegmentType.TheVariants.{Pds, Ods, Pcs, Wds, End, Other}
 use Rattle.pgs_set.proofs.Choices.{pick_first, pick_second}
-use Rattle.pgs_set.proofs.WalkLaws.{step-here, pieces-here, pieces_end, within-here, stands_on, kind-accepted, type-of-piece, piece-length}
+use Rattle.pgs_set.proofs.WalkLaws.{step-here, pieces-here, pieces_end, stands_on, kind-accepted, type-of-piece, piece-length}
 use Rattle.pgs_set.specs.Sets.{DisplaySet, no_set, group_verdict, kind_verdict, state_after, is_pcs, is_end, opens}
 use Rattle.pgs_set.specs.Sets.{through_end, bytes_in, sets_from, sets_of, set_count, sets_verdict, end_of, set_row}
 use Rattle.pgs_set.specs.Sets.{set_rows}
@@ -32,11 +32,6 @@ kind-read l e q = q ∙ ap (λ (h : SegmentHeader). type_of h.segment_type) e
 
 pub size-read : (l : List ℕ) {h : SegmentHeader} → h ≡ header_fields l → 13 + h.segment_size ≡ used_by l
 size-read l e = ap (λ (h : SegmentHeader). 13 + h.segment_size) e
-
--- the segment lies within the stream
-pub read-within : (s : List ℕ) (at : ℕ) {h : SegmentHeader} → step_verdict (drop at s) ≡ accepted → h ≡ header_fields (drop at s)
-    → at + (13 + h.segment_size) ≤ length s
-read-within s at ok e = omega (arith, within-here s at ok, size-read (drop at s) e)
 
 opens-few : (t : SegmentType) → opens t ≤ 1
 opens-few Pcs = omega arith

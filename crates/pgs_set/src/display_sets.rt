@@ -9,7 +9,6 @@ ghost use Rattle.pgs_set.specs.declared.grouping.Grouping.TheVariants.{Outside};
 use crate::open_set::PlacedSet;
 use crate::set::{SetRecord, group_display_sets};
 use pgs_base::refusal::Refusal;
-use pgs_segment::header::header_at;
 
 // The display sets of a stream: it is accepted, and so is the grouping of its segments.
 #[derive(Clone, Copy, Debug)]
@@ -67,13 +66,13 @@ impl<'a> Iterator for SetRecords<'a> {
         if s.len() <= place {
             return None;
         }
-        let header = header_at(s, place);
-        let end = PlacedSet { stream: s, place }.open_behind(header).end();
+        let (pcs, others) = PlacedSet { stream: s, place }.split_first();
+        let end = others.end();
         self.at = end;
         Some(SetRecord {
             place,
             end,
-            pts: header.pts,
+            pts: pcs.header.pts,
         })
     }
 }

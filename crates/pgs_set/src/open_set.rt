@@ -2,9 +2,11 @@
 ghost use Rattle.std.specs.Prelude.{◌≡◌, ◌+◌, drop};
 ghost use Rattle.pgs_segment.specs.Header.{header_fields};
 ghost use Rattle.pgs_segment.specs.OneSegment.{used_by};
+ghost use Rattle.pgs_stream.specs.Segments.{placed};
 ghost use Rattle.pgs_set.specs.Walks.{InSet, Ends, SetBegins};
 
-use pgs_segment::header::{SegmentHeader, header_at};
+use pgs_segment::header::header_at;
+use pgs_stream::segments::PlacedSegment;
 
 // The segments of a display set from a place on, in a stream that is accepted from there on: the set is open at that place.
 #[derive(Clone, Copy, Debug)]
@@ -23,16 +25,20 @@ pub struct PlacedSet<'a> {
 }
 
 impl<'a> PlacedSet<'a> {
-    // The set behind its PCS, which has this head.
-    pub(crate) fn open_behind(self, header: SegmentHeader) -> OpenSet<'a>
-        requires { header ≡ header_fields (drop self.place self.stream.now) }
-        ensures stream_value { result.stream.now ≡ self.entry.stream.now }
-        ensures from_value { result.from ≡ self.entry.place + used_by (drop self.entry.place self.entry.stream.now) }
+    // Its PCS, and the set behind it.
+    pub fn split_first(self) -> (PlacedSegment, OpenSet<'a>)
+        ensures pcs_value { result.0 ≡ placed self.entry.place (header_fields (drop self.entry.place self.entry.stream.now)) }
+        ensures stream_value { result.1.stream.now ≡ self.entry.stream.now }
+        ensures from_value { result.1.from ≡ self.entry.place + used_by (drop self.entry.place self.entry.stream.now) }
     {
-        OpenSet {
+        let at = self.place;
+        let header = header_at(self.stream, at);
+        let end = at + header.used();
+        let others = OpenSet {
             stream: self.stream,
-            from: self.place + header.used(),
-        }
+            from: end,
+        };
+        (PlacedSegment { at, header, end }, others)
     }
 
     // The set behind its PCS.
@@ -40,7 +46,7 @@ impl<'a> PlacedSet<'a> {
         ensures stream_value { result.stream.now ≡ self.entry.stream.now }
         ensures from_value { result.from ≡ self.entry.place + used_by (drop self.entry.place self.entry.stream.now) }
     {
-        self.open_behind(header_at(self.stream, self.place))
+        self.split_first().1
     }
 }
 
@@ -49,10 +55,8 @@ impl<'a> OpenSet<'a> {
     pub fn end(self) -> usize
         ensures { Ends self.entry.stream.now self.entry.from result }
     {
-        let mut at = self.from;
-        for segment in self.segments() {
-            at = segment.end;
-        }
-        at
+        self.segments()
+            .last()
+            .map_or(self.from, |segment| segment.end)
     }
 }

@@ -32,8 +32,8 @@ pub struct SetRecord {
 }
 
 // Whether a segment of this kind opens a set.
-// Stays a function: of a derived `==` a proof gets a comparison of the parts of the two values (`denote.Enum.Compared`), which a lemma of six
-// cases would have to turn into the specification's `is_pcs`; here there is none.
+// Stays a function: `matches!` in the caller, or a derived `==`, would leave the six kinds to the caller's proof; here the contract says
+// `is_pcs`.
 fn is_pcs(kind: SegmentType) -> bool
     ensures { result ≡ is_pcs kind }
 {
@@ -67,8 +67,8 @@ pub fn group_display_sets(s: &[u8]) -> Result<usize, Refusal>
     let mut rest = s;
     let mut state = Grouping::Outside;
     let mut n: usize = 0;
-    // Stays a loop: each step may refuse, and an iterator of `Result`s would have to be stopped at its first `Err` by a `?` in a loop
-    // all the same.
+    // Stays a loop: where the next segment stands is known from this one alone, so that an iterator of frames would have to be written for
+    // it, with laws of what it gives and of its end.
     while !rest.is_empty() {
         let header = check_segment(rest)?.header;
         let kind = header.kind();
@@ -87,8 +87,8 @@ pub fn group_display_sets(s: &[u8]) -> Result<usize, Refusal>
 }
 
 // Whether a segment of this kind closes a set.
-// Stays a function: of a derived `==` a proof gets a comparison of the parts of the two values (`denote.Enum.Compared`), which a lemma of six
-// cases would have to turn into the specification's `is_end`; here there is none.
+// Stays a function: `matches!` in the caller, or a derived `==`, would leave the six kinds to the caller's proof; here the contract says
+// `is_end`.
 pub fn is_end(kind: SegmentType) -> bool
     ensures { result ≡ is_end kind }
 {

@@ -2,13 +2,12 @@
 -- Assumes nothing.
 use mathlib.Core.Path.{◌≡◌, refl, sym, ap, ◌∙◌}
 use mathlib.Core.List.{List, [], ◌∷◌, map}
-use Prim.Native.Nat.{ℕ, ◌+◌, ◌-◌, ◌≤◌, ◌<◌}
+use Prim.Native.Nat.{ℕ, ◌+◌, ◌≤◌, ◌<◌}
 use native.Mathlib.Omega.{arith}
 use lib.ListN.{length, take, drop, length-drop}
 use lib.Seq.{drop-drop, length-take-le}
 use Rattle.pgs_base.specs.Outcome.{accepted}
 use Rattle.pgs_base.proofs.Outcomes.{not-both, not-refused}
-use Rattle.pgs_segment.proofs.HeaderLaws.{own-head}
 use Rattle.pgs_segment.specs.Header.{header_fields}
 use Rattle.pgs_segment.specs.OneSegment.{used_by}
 use Rattle.pgs_segment.specs.declared.header.SegmentHeader.{SegmentHeader}
@@ -34,16 +33,6 @@ module _ (s : List ℕ) {at : ℕ} (good : stream_verdict (drop at s) ≡ accept
 
   on : read_of (drop at s) ≡ before (take (used_by (drop at s)) (drop at s)) (read_of (drop (at + used_by (drop at s)) s))
   on = rw (← drop-drop (used_by (drop at s)) at s) (read-on (drop at s) ok)
-
-  -- its head lies within the stream
-  pub head-within : at + 13 ≤ length s
-  head-within = omega (arith, step-within (drop at s) ok, length-drop at s)
-
-  -- and is the same as the head of what is left
-  pub lent-head : header_fields (take (at + 13 - at) (drop at s)) ≡ header_fields (drop at s)
-  lent-head =
-      let n : at + 13 - at ≡ 13 = omega arith in
-      rw n (own-head 13 (drop at s) (omega arith) (rw length-drop (omega (arith, head-within))))
 
   -- the stream is accepted behind it
   pub good-on : stream_verdict (drop (at + used_by (drop at s)) s) ≡ accepted

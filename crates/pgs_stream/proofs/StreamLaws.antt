@@ -6,13 +6,11 @@ use Prim.Native.Nat.{ℕ, zero, suc, ◌+◌, ◌-◌, ◌≤◌, ◌<◌}
 use native.Mathlib.Omega.{arith}
 use borrow.Author.Tests.{lt-ltb}
 use lib.ListN.{length, take, drop, length-drop}
-use Rattle.pgs_base.specs.Outcome.{accepted, refused, Outcome, outcome_of, is_accepted}
-use Rattle.pgs_base.proofs.Lists.{to_end}
+use Rattle.pgs_base.specs.Outcome.{accepted, refused, is_accepted}
 use Rattle.pgs_base.proofs.Outcomes.{is-accepted, first-accepts}
 use Rattle.pgs_segment.specs.Header.{header_fields}
-use Rattle.pgs_segment.specs.OneSegment.{segment_verdict, used_by, frame_of}
+use Rattle.pgs_segment.specs.OneSegment.{segment_verdict, used_by}
 use Rattle.pgs_segment.specs.declared.header.SegmentHeader.{SegmentHeader}
-use Rattle.pgs_segment.specs.declared.segment.Frame.{Frame}
 use Rattle.pgs_stream.specs.Stream.{Reading, step_verdict, before, read_first, read_of, stopped_by, stream_verdict, segment_count, records_from, records_of}
 use Rattle.pgs_segment.proofs.HeaderLaws.{own-head}
 use Rattle.pgs_segment.proofs.SegmentLaws.{accepted-size}
@@ -27,12 +25,6 @@ step-accepted l e = simp (e, lt-ltb 0 (used_by l) (omega arith))
 
 pub step-refused : (l : List ℕ) {k : ℕ} → segment_verdict l ≡ refused k → step_verdict l ≡ refused k
 step-refused l e = rw e
-
--- what is lent to test a segment goes to the end of the stream
-pub frame_at : (s : List ℕ) (at : ℕ) {o : Outcome Frame}
-    → o ≡ outcome_of (segment_verdict (take (length s - at) (drop at s))) (frame_of (take (length s - at) (drop at s)))
-    → o ≡ outcome_of (segment_verdict (drop at s)) (frame_of (drop at s))
-frame_at s at e = e ∙ ap (λ (l : List ℕ). outcome_of (segment_verdict l) (frame_of l)) (to_end at s)
 
 -- enough fuel is enough
 same-fuel : (n m : ℕ) (l : List ℕ) → length l ≤ n → length l ≤ m → read_first n l ≡ read_first m l

@@ -53,8 +53,7 @@ impl<'a> Iterator for Segments<'a> {
             return None;
         }
         let at = self.at;
-        // Of a part as long as a head, the fields are read with no test of their places.
-        let header = header_at(&self.stream[at..at + SegmentHeader::SIZE], 0);
+        let header = header_at(self.stream, at);
         let end = at + header.used();
         self.at = end;
         Some(PlacedSegment { at, header, end })

@@ -21,8 +21,8 @@ pub fn count_segments(s: &[u8]) -> Result<usize, Refusal>
 {
     let mut rest = s;
     let mut n: usize = 0;
-    // Stays a loop: each step may refuse, and an iterator of `Result`s would have to be stopped at its first `Err` by a `?` in a loop
-    // all the same.
+    // Stays a loop: where the next segment stands is known from this one alone, so that an iterator of frames would have to be written for
+    // it, with laws of what it gives and of its end.
     while !rest.is_empty() {
         let used = check_segment(rest)?.header.used();
         if used == 0 {

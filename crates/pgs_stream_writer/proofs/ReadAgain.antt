@@ -4,36 +4,31 @@ use Rattle.std.specs.Prelude.{Option, None, Some}
 use mathlib.Core.Path.{◌≡◌, refl, sym, ap, ◌∙◌}
 use mathlib.Core.Bool.{Bool, true, false}
 use mathlib.Core.List.{List, [], ◌∷◌, ◌++◌, map}
-use Prim.Native.Nat.{ℕ, ◌+◌, ◌-◌, ◌≤◌, ◌<◌}
+use Prim.Native.Nat.{ℕ, ◌+◌, ◌-◌, ◌≤◌}
 use native.Mathlib.Omega.{arith}
 use borrow.Author.Tests.{le-leb}
-use lib.ListN.{length, take, drop, get_or, length-append, length-map}
+use lib.ListN.{length, take, drop, length-append, length-map}
 use lib.Seq.{take_at}
 use Rattle.pgs_base.specs.Outcome.{Verdict, accepted, Outcome, gives, refuses, unless, laid, Delivered, pick}
-use Rattle.pgs_base.proofs.Bytes.{num-byte}
-use Rattle.pgs_base.proofs.Lists.{to_end}
-use Rattle.pgs_base.proofs.Outcomes.{not-both, delivered, delivered-refusal}
+use Rattle.pgs_base.proofs.Outcomes.{not-both, delivered, delivered-refusal, delivered-value}
 use Rattle.pgs_views.specs.declared.segment_type.SegmentType.TheVariants as kinds
 use Rattle.pgs_views.specs.Kinds.{type_of}
 use Rattle.pgs_views.specs.declared.segment_type.SegmentType.{SegmentType}
-use Rattle.pgs_segment.specs.Fields.{pcs, wds, pds, ods, SegmentFields, body_of}
+use Rattle.pgs_segment.specs.Fields.{pcs, wds, pds, SegmentFields, body_of}
 use Rattle.pgs_segment.specs.Header.{size_of, header_fields}
 use Rattle.pgs_segment.specs.OneSegment.{segment_type, fields_of}
 use Rattle.pgs_segment.specs.declared.header.SegmentHeader.{SegmentHeader}
-use Rattle.pgs_ods.specs.OdsBody.{flag_of, head_size, ods_of, ods_data}
-use Rattle.pgs_pcs.specs.PcsBody.{placement_of, placement_size, placement_row, placement_rows, placement_count, placements_of, pcs_of, pcs_verdict}
+use Rattle.pgs_pcs.specs.PcsBody.{placement_of, placement_size, placement_row, placement_rows, placement_count, placements_of, pcs_of}
 use Rattle.pgs_pds.specs.PdsBody.{entry_of, entry_size, entry_row, entry_count, entries_of, entry_rows, pds_of}
-use Rattle.pgs_wds.specs.WdsBody.{window_of, window_size, window_row, window_count, windows_of, window_rows, wds_verdict}
-use Rattle.pgs_ods.specs.declared.ods.Ods.{Ods}
+use Rattle.pgs_wds.specs.WdsBody.{window_of, window_size, window_row, window_count, windows_of, window_rows}
 use Rattle.pgs_pcs.specs.declared.pcs.CompositionObject.{CompositionObject}
 use Rattle.pgs_pcs.specs.declared.pcs.Pcs.{Pcs}
 use Rattle.pgs_pds.specs.declared.pds.Pds.{Pds}
-use Rattle.pgs_wds.specs.declared.wds.Window.{Window}
-use Rattle.pgs_pcs.proofs.PcsLaws.{crop-back, has-numbers}
-use Rattle.pgs_wds.proofs.WdsLaws.{has-count}
+use Rattle.pgs_pcs.proofs.PcsLaws.{crop-back}
 use Rattle.pgs_records.proofs.RecordLaws.{records-length}
 use Rattle.pgs_encoding.specs.Encode.{encode}
-use Rattle.pgs_writer_base.specs.Kinds.{wds_segment, pds_segment, ods_segment, pcs_segment, pcs_rows_writable, segment_with}
+use Rattle.pgs_writer_base.specs.declared.head.Timestamps.{Timestamps}
+use Rattle.pgs_writer_base.specs.Kinds.{wds_segment, pds_segment, pcs_segment, pcs_rows_writable, segment_with}
 use Rattle.pgs_encoding.specs.Layout.{each}
 use Rattle.pgs_writer_base.specs.Rows.{window_from, entry_from, placement_from, mark_fits}
 use Rattle.pgs_encoding.specs.Writable.{writable}
@@ -43,37 +38,45 @@ back-again : {A : Type 0} (row : A → List ℕ) (back : List ℕ → A) → ((a
 back-again row back h [] = refl
 back-again row back h (x ∷ xs) = let e = h x in let r = back-again row back h xs in λ i. e i ∷ r i
 
--- what a body's list was read as, its rows, which stand for it again, and how many its count says
-pub record ReadList {A : Type 0} (row : A → List ℕ) (back : List ℕ → A) (xs : List A) (rows : List (List ℕ)) (count : ℕ) : Type 0 where
+-- a body whose reading gives x, which says how many records it has, and lists them: their rows stand for them again, and what is
+-- written of x and rows that do are the fields f
+pub record ReadList {A X : Type 0} (row : A → List ℕ) (back : List ℕ → A) (count : X → ℕ) (made : X → List (List ℕ) → SegmentFields)
+    (x : X) (xs : List A) (rows : List (List ℕ)) (f : SegmentFields) : Type 0 where
   pub are : rows ≡ map row xs
   pub again : (a : A) → back (row a) ≡ a
-  pub many : count ≡ length xs
+  pub many : count x ≡ length xs
+  pub fields : (rs : List (List ℕ)) → map back rs ≡ xs → made x rs ≡ f
 
-module _ {A X : Type 0} {row : A → List ℕ} {back : List ℕ → A} {xs : List A} {rows : List (List ℕ)} {count : ℕ} (l : ReadList row back xs rows count)
-    {v : Verdict} {x : X} {before after : List (List ℕ)} where
+module _ {A X : Type 0} {row : A → List ℕ} {back : List ℕ → A} {count : X → ℕ} {made : X → List (List ℕ) → SegmentFields} {x : X}
+    {xs : List A} {rows : List (List ℕ)} {f : SegmentFields} (l : ReadList row back count made x xs rows f) {v : Verdict} {before after : List (List ℕ)} where
   -- with room for all, an accepted body is not refused
-  pub never-refused : v ≡ accepted → length xs ≤ length before → {k : ℕ} → Delivered v x rows before after (refuses k) → ⊥
+  pub never-refused : v ≡ accepted → count x ≤ length before → {k : ℕ} → Delivered v x rows before after (refuses k) → ⊥
   never-refused e h {k} d =
       let as_many : length rows ≡ length xs = ap length l.are ∙ length-map xs row in
-      not-both (simp (e, le-leb (length rows) (length before) (omega arith))) (delivered-refusal d)
+      not-both (simp (e, le-leb (length rows) (length before) (omega (arith, l.many)))) (delivered-refusal d)
 
-  module _ {y : X} (d : Delivered v x rows before after (gives y)) {n : ℕ} (q : n ≡ count) where
+  module _ {y : X} (d : Delivered v x rows before after (gives y)) where
+    many-read : count y ≡ length xs
+    many-read = ap count (delivered-value d) ∙ l.many
+
     filled : after ≡ map row xs ++ drop (length rows) before
     filled = d.written ∙ (ap (λ (w : Verdict). laid w rows before) (delivered d) ∙ ap (λ (r : List (List ℕ)). r ++ drop (length rows) before) l.are)
 
-    pub room : n ≤ length after
-    room = rw (filled, length-append, length-map) (omega (arith, l.many))
+    pub room : count y ≤ length after
+    room = rw (filled, length-append, length-map) (omega (arith, many-read))
 
     -- the records that were stored
-    pub front : take n after ≡ map row xs
-    front = ap (take n) filled ∙ take_at (map row xs) (drop (length rows) before) n (length-map xs row ∙ sym (q ∙ l.many))
+    pub front : take (count y) after ≡ map row xs
+    front = ap (take (count y)) filled ∙ take_at (map row xs) (drop (length rows) before) (count y) (length-map xs row ∙ sym many-read)
 
-    pub front_length : n ≡ length (take n after)
-    front_length = q ∙ l.many ∙ sym (ap length front ∙ length-map xs row)
+    pub front_length : count y ≡ length (take (count y) after)
+    front_length = many-read ∙ sym (ap length front ∙ length-map xs row)
 
-    -- stand for what was read
-    pub read_again : map back (take n after) ≡ xs
-    read_again = ap (map back) front ∙ back-again row back l.again xs
+    -- written again, they are the same fields
+    pub written-again : made y (take (count y) after) ≡ f
+    written-again =
+        ap (λ (z : X). made z (take (count y) after)) (delivered-value d)
+        ∙ l.fields (take (count y) after) (ap (map back) front ∙ back-again row back l.again xs)
 
 -- a write of the same fields
 pub same_write : {f g : SegmentFields} {before after : List ℕ} {a : Outcome ℕ} → f ≡ g
@@ -100,52 +103,44 @@ marks-fit (p ∷ ps) = simp (one p.cropping refl) (marks-fit ps)
     one None e = rw e
     one (Some c) e = rw e
 
-pub marked : (p d : ℕ) (n : Pcs) (ps : List CompositionObject) {rows : List (List ℕ)} → rows ≡ map placement_row ps
-    → pcs_rows_writable p d n rows ≡ writable (pcs_segment p d n rows)
-marked p d n ps {rows} e = ap (λ (t : Bool). pick t (writable (pcs_segment p d n rows)) false) (ap (each mark_fits) e ∙ marks-fit ps)
+pub marked : (t : Timestamps) (n : Pcs) (ps : List CompositionObject) {rows : List (List ℕ)} → rows ≡ map placement_row ps
+    → pcs_rows_writable t.pts t.dts n rows ≡ writable (pcs_segment t.pts t.dts n rows)
+marked t n ps {rows} e = ap (λ (u : Bool). pick u (writable (pcs_segment t.pts t.dts n rows)) false) (ap (each mark_fits) e ∙ marks-fit ps)
 
-module _ (b : List ℕ) where
+module _ (t : Timestamps) (b : List ℕ) where
   -- the lists of a body
-  pub windows-read : ReadList window_row window_from (windows_of b) (window_rows b) (window_count b)
+  pub windows-read : ReadList window_row window_from (λ n. n) (λ n rows. wds_segment t.pts t.dts rows) (window_count b) (windows_of b) (window_rows b)
+      (segment_with t.pts t.dts kinds.Wds b)
   unfolding window_rows
-  windows-read = record { are = refl; again = λ w. refl; many = sym (records-length window_of window_size (window_count b) (drop 1 b)) }
+  windows-read =
+      record {
+        are = refl;
+        again = λ w. refl;
+        many = sym (records-length window_of window_size (window_count b) (drop 1 b));
+        fields = λ rows e i. record { pts = t.pts; dts = t.dts; body = wds (e i) };
+      }
 
-  pub entries-read : ReadList entry_row entry_from (entries_of b) (entry_rows b) (entry_count b)
+  pub entries-read : ReadList entry_row entry_from (λ (x : Pds × ℕ). x.1) (λ x rows. pds_segment t.pts t.dts x.0 rows) (pds_of b, entry_count b) (entries_of b) (entry_rows b)
+      (segment_with t.pts t.dts kinds.Pds b)
   unfolding entry_rows
-  entries-read = record { are = refl; again = λ e. refl; many = sym (records-length entry_of entry_size (entry_count b) (drop 2 b)) }
+  entries-read =
+      record {
+        are = refl;
+        again = λ e. refl;
+        many = sym (records-length entry_of entry_size (entry_count b) (drop 2 b));
+        fields = λ rows e i. record { pts = t.pts; dts = t.dts; body = pds (pds_of b) (e i) };
+      }
 
-  pub placements-read : ReadList placement_row placement_from (placements_of b) (placement_rows b) (placement_count b)
+  pub placements-read : ReadList placement_row placement_from (λ (x : Pcs × ℕ). x.1) (λ x rows. pcs_segment t.pts t.dts x.0 rows) (pcs_of b, placement_count b)
+      (placements_of b) (placement_rows b) (segment_with t.pts t.dts kinds.Pcs b)
   unfolding placement_rows
   placements-read =
-      record { are = refl; again = placement-back; many = sym (records-length placement_of placement_size (placement_count b) (drop 11 b)) }
-
-  -- a count of one byte names at most 255
-  pub few-windows : wds_verdict b ≡ accepted → get_or b 0 0 < 256 → length (windows_of b) ≤ 255
-  few-windows e h = omega (arith, windows-read.many, num-byte 0 b (has-count b e))
-
-  pub few-placements : pcs_verdict b ≡ accepted → get_or b 10 0 < 256 → length (placements_of b) ≤ 255
-  few-placements e h = let q = has-numbers b e in omega (arith, placements-read.many, num-byte 10 b (omega arith))
-
-  -- and a body of 65,535 bytes has at most 13,106 entries
-  pub few-entries : length b ≤ 65535 → length (entries_of b) ≤ 13106
-  few-entries h = omega (arith, entries-read.many)
-
-  -- the fields that were read
-  module _ (p d : ℕ) where
-    pub wds-again : (rows : List (List ℕ)) → map window_from rows ≡ windows_of b → wds_segment p d rows ≡ segment_with p d kinds.Wds b
-    wds-again rows e = ap (λ (ws : List Window). record { pts = p; dts = d; body = wds ws }) e
-
-    pub pds-again : {n : Pds} (rows : List (List ℕ)) → n ≡ pds_of b → map entry_from rows ≡ entries_of b → pds_segment p d n rows ≡ segment_with p d kinds.Pds b
-    pds-again rows q e = λ i. record { pts = p; dts = d; body = pds (q i) (e i) }
-
-    pub pcs-again : {n : Pcs} (rows : List (List ℕ)) → n ≡ pcs_of b → map placement_from rows ≡ placements_of b → pcs_segment p d n rows ≡ segment_with p d kinds.Pcs b
-    pcs-again rows q e = λ i. record { pts = p; dts = d; body = pcs (q i) (e i) }
-
-    pub ods-again : {n : Ods} {start : ℕ} → n ≡ ods_of b → start ≡ head_size (flag_of b)
-        → ods_segment p d n (take (length b - start) (drop start b)) ≡ segment_with p d kinds.Ods b
-    ods-again {start = start} q e =
-        let r : take (length b - start) (drop start b) ≡ ods_data b = to_end start b ∙ ap (λ (k : ℕ). drop k b) e in
-        λ i. record { pts = p; dts = d; body = ods (q i) (r i) }
+      record {
+        are = refl;
+        again = placement-back;
+        many = sym (records-length placement_of placement_size (placement_count b) (drop 11 b));
+        fields = λ rows e i. record { pts = t.pts; dts = t.dts; body = pcs (pcs_of b) (e i) };
+      }
 
 -- the segment whose head and body were read
 pub segment-again : (l : List ℕ) {h : SegmentHeader} {t : SegmentType} → h ≡ header_fields l → t ≡ type_of h.segment_type

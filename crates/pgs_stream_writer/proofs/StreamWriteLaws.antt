@@ -12,7 +12,7 @@ use lib.ListN.{length, take, drop, length-append, length-drop, drop_of_length-le
 use lib.Seq.{drop-drop, length-take-le}
 use Rattle.pgs_base.proofs.Lists.{to_end}
 use Rattle.pgs_base.proofs.Outcomes.{second_holds, holds, first-accepts, not-both, not-refused}
-use Rattle.pgs_base.specs.Outcome.{Verdict, accepted, refused, Outcome, gives, refuses, outcome, outcome_of, needing, laid, Delivered}
+use Rattle.pgs_base.specs.Outcome.{Verdict, accepted, refused, Outcome, refuses, outcome, outcome_of, needing, laid, Delivered}
 use Rattle.pgs_stream.proofs.ReadingLaws.{own-fields}
 use Rattle.pgs_stream.proofs.StreamLaws.{read-on, read-stops, stopped-at}
 use Rattle.pgs_segment.specs.Fields.{SegmentFields}
@@ -49,21 +49,6 @@ take-none zero xs h = refl
 take-none (suc k) xs h = ap (take (suc k)) (h (omega arith))
 
 module _ (s : List ℕ) (n : ℕ) (start : List ℕ) where
-  pub performing : {k : ℕ} {xs : List PlacedSegment} → stream_verdict s ≡ accepted → k ≡ n → xs ≡ segments_from s 0 → Performing s n start start k xs 0 0
-  performing {k} ok e q =
-      let r : run (take k (stream_fields s)) 0 start ≡ stream_writes n s start = ap (λ (k : ℕ). run (take k (stream_fields s)) 0 start) e in
-      record {
-        from = 0;
-        good = ok;
-        left = q;
-        room = omega arith;
-        same = refl;
-        few = omega (arith, e);
-        position = ap (λ (w : Written). w.position) r;
-        output = ap (λ (w : Written). w.output) r;
-        number = omega (arith, ap (λ (w : Written). accepted_in w.answers) r);
-      }
-
   module _ {now : List ℕ} {k : ℕ} {xs : List PlacedSegment} {at done : ℕ} (c : Performing s n start now k xs at done) where
     -- all are done
     pub performed : (0 < k → xs ≡ []) → (writes_done (stream_writes n s start) ≡ (done, at)) × (now ≡ (stream_writes n s start).output)
@@ -263,11 +248,6 @@ module _ (s : List ℕ) (n : ℕ) (start : List ℕ) {now : List ℕ} {k : ℕ} 
 
 -- how the call ends, for an accepted stream and for a refused one
 module _ (n : ℕ) (s o : List ℕ) where
-  pub accepted-writes : {a : Outcome (ℕ × ℕ)} {o' : List ℕ} → stream_verdict s ≡ accepted
-      → (a ≡ gives (writes_done (stream_writes n s o))) × (o' ≡ (stream_writes n s o).output)
-      → (a ≡ outcome_of (stream_verdict s) (writes_done (stream_writes n s o))) × (o' ≡ output_after (stream_verdict s) (stream_writes n s o) o)
-  accepted-writes e r = rw e r
-
   pub refused-writes : {k : ℕ} → stream_verdict s ≡ refused k
       → (◌≡◌ {A = Outcome (ℕ × ℕ)} (refuses k) (outcome_of (stream_verdict s) (writes_done (stream_writes n s o)))) × (o ≡ output_after (stream_verdict s) (stream_writes n s o) o)
   refused-writes e = rw e (refl, refl)

@@ -27,51 +27,7 @@ const COUNTED: usize = u8::MAX as usize;
 
 const ENTRIES: usize = (u16::MAX as usize - 2) / 5;
 
-// A PCS of the body, which is known to be whole: reading it is never refused.
-// Stays three functions: one for all kinds would need a trait with a record type, its room, a reader and a writer, whose impls are no
-// shorter than these bodies.
-// Stays without a struct of a whole body: it would hold the kind, and each of these would ask that the kind is its own, in the place of
-// that the body is whole.
-fn rewrite_pcs(times: Timestamps, body: &[u8], out: &mut [u8]) -> Result<usize, Refusal>
-    requires { body_verdict SegmentType.Pcs body.now ≡ accepted }
-    ensures { Wrote (segment_with times.pts times.dts SegmentType.Pcs body.now) out.old out.new result }
-{
-    let mut placements = [[0u16; 10]; COUNTED];
-    let (pcs, n) = Pcs::parse(body, &mut placements)?;
-    encode_pcs(times, pcs, &placements[..n], out)
-}
-
-// A WDS of such a body.
-fn rewrite_wds(times: Timestamps, body: &[u8], out: &mut [u8]) -> Result<usize, Refusal>
-    requires { body_verdict SegmentType.Wds body.now ≡ accepted }
-    ensures { Wrote (segment_with times.pts times.dts SegmentType.Wds body.now) out.old out.new result }
-{
-    let mut windows = [[0u16; 5]; COUNTED];
-    let n = Wds::parse(body, &mut windows)?;
-    encode_wds(times, &windows[..n], out)
-}
-
-// A PDS of such a body.
-fn rewrite_pds(times: Timestamps, body: &[u8], out: &mut [u8]) -> Result<usize, Refusal>
-    requires body_value { body_verdict SegmentType.Pds body.now ≡ accepted }
-    requires body_len_bound { length body.now ≤ 65535 }
-    ensures { Wrote (segment_with times.pts times.dts SegmentType.Pds body.now) out.old out.new result }
-{
-    let mut entries = [[0u8; 5]; ENTRIES];
-    let (pds, n) = Pds::parse(body, &mut entries)?;
-    encode_pds(times, pds, &entries[..n], out)
-}
-
-// An ODS of such a body.
-fn rewrite_ods(times: Timestamps, body: &[u8], out: &mut [u8]) -> Result<usize, Refusal>
-    requires { body_verdict SegmentType.Ods body.now ≡ accepted }
-    ensures { Wrote (segment_with times.pts times.dts SegmentType.Ods body.now) out.old out.new result }
-{
-    let (ods, data) = Ods::parse(body)?;
-    encode_ods(times, ods, &body[data.start..], out)
-}
-
-// A segment of the kind, with such a body.
+// A segment of this kind and body, which is known to be whole: reading it is never refused.
 fn rewrite_body(
     times: Timestamps,
     kind: SegmentType,
@@ -83,10 +39,25 @@ fn rewrite_body(
     ensures { Wrote (segment_with times.pts times.dts kind body.now) out.old out.new result }
 {
     match kind {
-        SegmentType::Pds => rewrite_pds(times, body, out),
-        SegmentType::Ods => rewrite_ods(times, body, out),
-        SegmentType::Pcs => rewrite_pcs(times, body, out),
-        SegmentType::Wds => rewrite_wds(times, body, out),
+        SegmentType::Pds => {
+            let mut entries = [[0u8; 5]; ENTRIES];
+            let (pds, n) = Pds::parse(body, &mut entries)?;
+            encode_pds(times, pds, &entries[..n], out)
+        }
+        SegmentType::Ods => {
+            let (ods, data) = Ods::parse(body)?;
+            encode_ods(times, ods, &body[data.start..], out)
+        }
+        SegmentType::Pcs => {
+            let mut placements = [[0u16; 10]; COUNTED];
+            let (pcs, n) = Pcs::parse(body, &mut placements)?;
+            encode_pcs(times, pcs, &placements[..n], out)
+        }
+        SegmentType::Wds => {
+            let mut windows = [[0u16; 5]; COUNTED];
+            let n = Wds::parse(body, &mut windows)?;
+            encode_wds(times, &windows[..n], out)
+        }
         SegmentType::End => encode_end(times, out),
         SegmentType::Other(v) => encode_other(times, v, body, out),
     }

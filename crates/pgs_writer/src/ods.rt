@@ -8,7 +8,6 @@ ghost use Rattle.pgs_writer_base.specs.Kinds.{ods_segment};
 
 use pgs_base::refusal::Refusal;
 use pgs_ods::ods::Ods;
-use pgs_views::fragment_flag::FragmentFlag;
 use pgs_views::segment_type::SegmentType;
 use pgs_writer_base::body::encode_data;
 use pgs_writer_base::head::Timestamps;
@@ -24,8 +23,7 @@ fn ods_fits(o: Ods) -> bool
     if LONGEST < o.object_data_length {
         return false;
     }
-    let first = FragmentFlag::from(o.last_in_sequence_flag).is_first();
-    o.dimensions.is_some() == first
+    o.dimensions.is_some() == o.is_first()
 }
 
 // The numbers, one after another, and how many bytes they take.

@@ -2,15 +2,15 @@
 use mathlib.Core.Path.{◌≡◌, refl, sym, ap, ◌∙◌, subst}
 use mathlib.Core.Bool.{Bool, true, false}
 use mathlib.Core.List.{List, ◌++◌}
-use Prim.Native.Nat.{ℕ, suc, ◌+◌, ◌^◌, ◌≤◌, ◌<◌}
+use Prim.Native.Nat.{ℕ, suc, ◌+◌, ◌^◌, ◌<◌}
 use native.Mathlib.Omega.{arith}
-use borrow.Author.Tests.{le-leb, lt-leb, lt-ltb, leb-true, leb-false}
+use borrow.Author.Tests.{lt-ltb, leb-true, leb-false}
 use lib.Dec.{leb, ltb}
 use lib.ListN.{length, length-append}
 use lib.Seq.{sets}
 use Rattle.pgs_base.specs.Outcome.{accepted, Outcome, gives, refuses, outcome_of, unless, needing, Delivered, pick}
 use Rattle.pgs_base.proofs.Decisions.{leb-same}
-use Rattle.pgs_base.proofs.Outcomes.{gave, gives_as, refuses-as}
+use Rattle.pgs_base.proofs.Outcomes.{gave}
 use Rattle.pgs_segment.specs.Fields.{BodyFields, kind_byte}
 use Rattle.pgs_views.specs.Kinds.{raw_of}
 use Rattle.pgs_views.specs.declared.segment_type.SegmentType.{SegmentType}
@@ -20,21 +20,9 @@ use Rattle.pgs_encoding.specs.Writable.{body_writable, writable}
 use Rattle.pgs_encoding.proofs.LayoutLaws.{length-written}
 use Rattle.pgs_writer_base.specs.Bodies.{is_body_size, segment_bytes, list_body, list_fits, front_after}
 use Rattle.pgs_writer_base.specs.declared.head.Timestamps.{Timestamps}
-use Rattle.pgs_writer_base.proofs.FitLaws.{pick-neither, pick-self}
+use Rattle.pgs_writer_base.proofs.FitLaws.{pick-self}
 use Rattle.pgs_writer_base.proofs.PutLaws.{then-sets}
 use Rattle.pgs_writer_base.proofs.WriteLaws.{TimesFit, write-34, write-all}
-
--- a body that is too large
-pub size-large : (n : ℕ) → 65536 ≤ n → is_body_size n ≡ false
-size-large n h = lt-leb n 65535 (omega arith)
-
--- a size that was counted
-pub size-counted : {size total : ℕ} → size ≡ total → size < 65536 → gives size ≡ outcome_of (unless 35 (is_body_size total)) total
-size-counted {size} {total} e h = gives_as (ap (unless 35) (le-leb total 65535 (omega arith))) e
-
--- and one that is too large
-pub size-passed : (total : ℕ) → 65536 ≤ total → refuses 35 ≡ outcome_of (unless 35 (is_body_size total)) total
-size-passed total h = refuses-as total (ap (unless 35) (size-large total h))
 
 -- the bytes of a segment
 pub segment-length : (t : Timestamps) (kind : SegmentType) (body : List ℕ) → length (segment_bytes t kind body) ≡ 13 + length body
@@ -42,20 +30,6 @@ unfolding segment_bytes
 segment-length t kind body = rw (length-append, length-written (head_fields t.pts t.dts (raw_of kind) (length body)))
 
 module _ {A : Type 0} (fields : A → List Field) (fits : A → Bool) (numbers : List ℕ) (rows : List A) where
-  -- what the tests say of such a body
-  pub rows-unfit : each fits rows ≡ false → list_fits fields fits numbers rows ≡ false
-  rows-unfit e =
-      let size = is_body_size (length (list_body fields numbers rows)) in
-      ap (λ (u : Bool). pick size u false) e ∙ pick-neither size
-
-  pub size-unfit : (n : ℕ) {k : ℕ} → refuses k ≡ outcome_of (unless 35 (is_body_size (length (list_body fields numbers rows)))) n
-      → refuses k ≡ outcome_of (unless 35 (list_fits fields fits numbers rows)) n
-  size-unfit = go (is_body_size (length (list_body fields numbers rows)))
-    where
-      go : (u : Bool) (n : ℕ) {k : ℕ} → refuses k ≡ outcome_of (unless 35 u) n → refuses k ≡ outcome_of (unless 35 (pick u (each fits rows) false)) n
-      go true n e = cc
-      go false n e = e
-
   pub list-fit : {n : ℕ} → gives n ≡ outcome_of (unless 35 (is_body_size (length (list_body fields numbers rows)))) (length (list_body fields numbers rows))
       → each fits rows ≡ true → list_fits fields fits numbers rows ≡ true
   list-fit {n} e q = go (is_body_size (length (list_body fields numbers rows))) (gave _ _ e)

@@ -3,10 +3,8 @@ use mathlib.Core.Path.{◌≡◌, refl, sym, ap, ◌∙◌}
 use mathlib.Core.Bool.{Bool, true, false}
 use mathlib.Core.List.{List, [], ◌∷◌, ◌++◌, map}
 use Prim.Native.Nat.{ℕ, ◌+◌, ◌≤◌, ◌<◌}
-use native.Mathlib.Nat.{add-zero}
 use native.Mathlib.Numerals.{add-one}
-use native.Mathlib.Omega.{arith}
-use lib.ListN.{length, drop, get_or, length-append}
+use lib.ListN.{length, drop, get_or}
 use lib.Seq.{sets, drop-cons, drop-length}
 use mathlib.Core.Bool.{◌&&◌}
 use Rattle.std.specs.List.{list_all}
@@ -46,23 +44,6 @@ module _ {A : Type 0} (rows : List A) where
     pub record Measuring (total i size : ℕ) : Type 0 where
       pub reach : size + length (record_bytes fields (drop i rows)) ≡ total
       pub small : size < 65536
-
-    -- the next one
-    module _ {total i size k : ℕ} {a : A} (s : Measuring total i size) (h : i < length rows) (e : a ≡ get_or rows i a) (q : k ≡ length (written (fields a))) where
-      with_next : size + k + length (record_bytes fields (drop (i + 1) rows)) ≡ total
-      with_next =
-          let after : length (record_bytes fields (drop i rows)) ≡ length (written (fields a)) + length (record_bytes fields (drop (i + 1) rows))
-          = ap length (bytes_next h e) ∙ length-append (written (fields a)) (record_bytes fields (drop (i + 1) rows)) in
-          omega (arith, s.reach, after, q)
-
-      pub measures : size + k < 65536 → Measuring total (i + 1) (size + k)
-      measures m = record { reach = with_next; small = m }
-
-      pub at_least : size + k ≤ total
-      at_least = omega (arith, with_next)
-
-    pub measured : {total size : ℕ} → Measuring total (length rows) size → size ≡ total
-    measured {total} {size} s = sym (ap (λ (l : List A). size + length (record_bytes fields l)) (drop-length rows) ∙ add-zero size) ∙ s.reach
 
     module _ (start : List ℕ) (first : ℕ) where
       -- i rows are stored from place `first` on, and the next one goes to `at`: storing the others gives the whole

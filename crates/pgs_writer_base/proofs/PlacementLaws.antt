@@ -11,9 +11,7 @@ use Prim.Native.Nat.{ℕ, zero, suc, ◌+◌, ◌^◌, ◌≤◌, ◌<◌}
 use native.Mathlib.Omega.{arith}
 use borrow.Author.Tests.{lt-ltb, le-ltb, lt-leb, eq-eqb, ne_eqb}
 use lib.Dec.{eqb, leb, ltb}
-use lib.ListN.{length, take, get_or, length-map}
-use lib.Seq.{sets}
-use Rattle.pgs_base.specs.Bytes.{bytes_of}
+use lib.ListN.{length, get_or, length-map}
 use Rattle.pgs_base.specs.Outcome.{Outcome, pick}
 use Rattle.pgs_segment.specs.Fields.{pcs}
 use Rattle.pgs_pcs.specs.PcsBody.{crop_from}
@@ -26,7 +24,6 @@ use Rattle.pgs_writer_base.specs.Rows.{placement_from, mark_fits}
 use Rattle.pgs_encoding.specs.Writable.{body_writable, placement_writable, crop_where}
 use Rattle.pgs_writer_base.proofs.EachLaws.{bytes-map}
 use Rattle.pgs_writer_base.proofs.FitLaws.{pick-neither, pick-self}
-use Rattle.pgs_writer_base.proofs.PutLaws.{then-sets, wrote}
 use Rattle.pgs_writer_base.proofs.WriteLaws.{TimesFit, body_refused}
 
 -- a crop is marked by 1, and exactly at the flag
@@ -54,20 +51,6 @@ module _ (r : List ℕ) where
   cut = record { horizontal_position = get_or r 6 0; vertical_position = get_or r 7 0; width = get_or r 8 0; height = get_or r 9 0 }
 
   module _ (cell : (k : ℕ) → get_or r k 0 < 65536) where
-    unfit : all_fit (placement_fields (placement_from r)) ≡ false → placement_row_fits r ≡ false
-    unfit e =
-        let t = crop_where (eqb (get_or r 2 0) 0x40) (crop_from r) in
-        ap (λ (u : Bool). pick (mark_fits r) (pick t u false) false) e
-        ∙ (ap (λ (u : Bool). pick (mark_fits r) u false) (pick-neither t) ∙ pick-neither (mark_fits r))
-
-    pub wide-window : 255 < get_or r 1 0 → placement_row_fits r ≡ false
-    wide-window h = unfit (simp (lt-ltb (get_or r 0 0) (256 ^ 2) (cell 0), le-ltb (get_or r 1 0) (256 ^ 1) h))
-
-    pub wide-flag : get_or r 1 0 ≤ 255 → 255 < get_or r 2 0 → placement_row_fits r ≡ false
-    wide-flag w h =
-        unfit
-        (simp (lt-ltb (get_or r 0 0) (256 ^ 2) (cell 0), lt-ltb (get_or r 1 0) (256 ^ 1) (omega arith), le-ltb (get_or r 2 0) (256 ^ 1) h))
-
     module _ (w : get_or r 1 0 ≤ 255) (v : get_or r 2 0 ≤ 255) where
       before-fits : (fs : List Field) → all_fit fs ≡ true → all_fit (before fs) ≡ true
       before-fits fs e =
@@ -94,28 +77,6 @@ module _ (r : List ℕ) where
 
       pub fits-cropped : get_or r 2 0 ≡ 0x40 → placement_row_fits r ≡ eqb (get_or r 5 0) 1
       fits-cropped e = by_flag true (eq-eqb (get_or r 2 0) 0x40 e)
-
-      pub fits-plain : (get_or r 2 0 ≡ 0x40 → ⊥) → placement_row_fits r ≡ eqb (get_or r 5 0) 0
-      fits-plain q = by_flag false (ne_eqb (get_or r 2 0) 0x40 q)
-
-  -- the fields of a record, stored one after another
-  module _ (at : ℕ) (m : List ℕ) where
-    pub placement-stored : {a b c d e f : List ℕ}
-        → a ≡ sets m at (bytes_of 2 (get_or r 0 0))
-        → b ≡ sets a (at + 2) (bytes_of 1 (get_or r 1 0))
-        → c ≡ sets b (at + 3) (bytes_of 1 (get_or r 2 0))
-        → d ≡ sets c (at + 4) (bytes_of 2 (get_or r 3 0)) → e ≡ sets d (at + 6) (bytes_of 2 (get_or r 4 0)) → f ≡ sets e (at + 8) (written (crop_fields (crop_from r)))
-        → f ≡ sets m at (written (placement_fields (placement_from r)))
-    placement-stored ea eb ec ed ee ef =
-        let fs : List Field = before [] in
-        ef
-        ∙ then-sets m at (written fs) (written (crop_fields (crop_from r)))
-        (wrote m at (take 4 fs) 2 (get_or r 4 0)
-        (wrote m at (take 3 fs) 2 (get_or r 3 0)
-        (wrote m at (take 2 fs) 1 (get_or r 2 0) (wrote m at (take 1 fs) 1 (get_or r 1 0) ea refl eb) refl ec)
-        refl ed)
-        refl ee)
-        refl
 
 -- the records that can be written
 both : (a b c d : Bool) → pick (pick a c false) (pick b d false) false ≡ pick (pick a b false) (pick c d false) false

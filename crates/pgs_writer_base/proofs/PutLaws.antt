@@ -1,18 +1,15 @@
 -- Stores that follow one another. Assumes nothing.
 use mathlib.Core.Path.{◌≡◌, refl, sym, ap, ◌∙◌}
 use mathlib.Core.Bool.{Bool, true, false}
-use mathlib.Core.List.{List, [], ◌∷◌, ◌++◌, append-nil, append_assoc}
-use Prim.Native.Nat.{ℕ, suc, min, ◌+◌, ◌-◌, ◌≤◌, ◌%◌}
+use mathlib.Core.List.{List, [], ◌∷◌, ◌++◌, append_assoc}
+use Prim.Native.Nat.{ℕ, suc, min, ◌+◌, ◌-◌, ◌≤◌}
 use native.Mathlib.Nat.{add-suc, suc-add, add-zero}
 use native.Mathlib.Omega.{arith}
 use borrow.Author.Tests.{leb-true, leb-false}
 use lib.Dec.{leb}
 use lib.ListN.{length, take, drop, set, take-append-drop, drop_of_length-le}
 use lib.Seq.{sets, set_out, sets-eq, drop-drop, length-take-le, length-sets}
-use Rattle.pgs_base.specs.Bytes.{bytes_of}
 use Rattle.pgs_base.specs.Outcome.{accepted, laid}
-use Rattle.pgs_encoding.specs.Layout.{Field, written}
-use Rattle.pgs_encoding.proofs.LayoutLaws.{widths, total, length-written, written-append}
 
 -- one run of stores after another is one run
 pub sets-append : {A : Type 0} (l : List A) (i : ℕ) (vs ws : List A) → sets (sets l i vs) (i + length vs) ws ≡ sets l i (vs ++ ws)
@@ -42,10 +39,6 @@ sets-front vs l h = sets-eq vs l 0 (omega arith) ∙ ap (λ (k : ℕ). vs ++ dro
 pub sets-part : {A : Type 0} (l : List A) (i : ℕ) (vs : List A) → i + length vs ≤ length l → take i l ++ (vs ++ drop (length vs) (drop i l)) ≡ sets l i vs
 sets-part l i vs h = rw (drop-drop (length vs) i l) (sym (sets-eq vs l i h ∙ append_assoc (take i l) vs (drop (i + length vs) l)))
 
--- a number in one byte is its low byte
-pub low-byte : (n : ℕ) → bytes_of 1 (n % 256) ≡ bytes_of 1 n
-low-byte n = let e : n % 256 % 256 ≡ n % 256 = omega arith in ap (λ (k : ℕ). k ∷ []) e
-
 -- what is past the end is left out
 pub sets-trim : {A : Type 0} (l : List A) (i : ℕ) {n : ℕ} (vs : List A) → i ≤ length l → n ≡ min (length vs) (length l - i)
     → take i l ++ (take n vs ++ drop n (drop i l)) ≡ sets l i vs
@@ -64,11 +57,3 @@ sets-trim l i {n} vs h e =
     rest short false q =
         sets-out (sets l i (take n vs)) (i + length (take n vs)) (drop n vs)
         (omega (arith, leb-false (length vs) (length l - i) q, length-sets l i (take n vs)))
-
--- one field more behind those that are stored
-pub wrote : (l : List ℕ) (i : ℕ) (fs : List Field) (w n : ℕ) {m m' : List ℕ} {j : ℕ} → m ≡ sets l i (written fs) → j ≡ i + total (widths fs)
-    → m' ≡ sets m j (bytes_of w n) → m' ≡ sets l i (written (fs ++ ((w, n) ∷ [])))
-wrote l i fs w n e q r =
-    r
-    ∙ (then-sets l i (written fs) (bytes_of w n) e (q ∙ ap (λ (k : ℕ). i + k) (sym (length-written fs)))
-    ∙ ap (sets l i) (sym (written-append fs ((w, n) ∷ []) ∙ ap (λ (t : List ℕ). written fs ++ t) (append-nil (bytes_of w n)))))

@@ -9,13 +9,13 @@ use mathlib.Core.List.{List, [], ◌∷◌, map}
 use Prim.Native.Nat.{ℕ, ◌%◌, ◌^◌, ◌<◌}
 use native.Mathlib.Omega.{arith}
 use borrow.Author.Tests.{lt-ltb, le-ltb}
-use lib.ListN.{length, get_or, length-map}
+use lib.ListN.{length, length-map}
 use Rattle.pgs_base.specs.Outcome.{Outcome}
 use Rattle.pgs_segment.specs.Fields.{wds, pds}
 use Rattle.pgs_pds.specs.declared.pds.Pds.{Pds}
 use Rattle.pgs_encoding.specs.Encode.{body_bytes, encode, window_fields, entry_fields}
 use Rattle.pgs_writer_base.specs.Kinds.{wds_segment, pds_segment}
-use Rattle.pgs_encoding.specs.Layout.{Field, written, all_fit}
+use Rattle.pgs_encoding.specs.Layout.{Field, all_fit}
 use Rattle.pgs_writer_base.specs.Rows.{window_from, entry_from}
 use Rattle.pgs_encoding.specs.Writable.{writable}
 use Rattle.pgs_writer_base.proofs.EachLaws.{each-map, bytes-map}
@@ -52,22 +52,6 @@ module _ (t : Timestamps) (rows : List (List ℕ)) where
       fields-answer t ok kinds.Wds (wds (map window_from rows)) refl (omega arith) body
       (each-map window_from (λ w. all_fit (window_fields w)) rows
       ∙ sym (simp (lt-ltb (length (map window_from rows)) (256 ^ 1) (omega arith))))
-
--- the cells of an entry are its bytes
-pub entry-bytes : (r : List ℕ) → length r ≡ 5 → ((i : ℕ) → get_or r i 0 < 256) → r ≡ written (entry_row_fields r)
-entry-bytes (a ∷ b ∷ c ∷ d ∷ e ∷ []) q h =
-    let a' : a ≡ a % 256 = count_byte refl (h 0) in
-    let b' : b ≡ b % 256 = count_byte refl (h 1) in
-    let c' : c ≡ c % 256 = count_byte refl (h 2) in
-    let d' : d ≡ d % 256 = count_byte refl (h 3) in
-    let e' : e ≡ e % 256 = count_byte refl (h 4) in
-    λ i. a' i ∷ b' i ∷ c' i ∷ d' i ∷ e' i ∷ []
-entry-bytes (a ∷ b ∷ c ∷ d ∷ e ∷ f ∷ r) q h = absurd (omega arith)
-entry-bytes (a ∷ b ∷ c ∷ d ∷ []) q h = absurd (omega arith)
-entry-bytes (a ∷ b ∷ c ∷ []) q h = absurd (omega arith)
-entry-bytes (a ∷ b ∷ []) q h = absurd (omega arith)
-entry-bytes (a ∷ []) q h = absurd (omega arith)
-entry-bytes [] q h = absurd (omega arith)
 
 module _ (t : Timestamps) (n : Pds) (rows : List (List ℕ)) where
   -- id and version, then the entries

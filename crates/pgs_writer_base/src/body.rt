@@ -16,6 +16,7 @@ use pgs_segment::header::SegmentHeader;
 use pgs_views::segment_type::SegmentType;
 
 // Stores the head of a body of this size and the body's numbers, and answers how many bytes the segment takes; 34 without room for it.
+// Stays by times, kind and numbers, as the two below: each writer would make a struct of the three for its one call.
 fn put_front(
     out: &mut [u8],
     times: Timestamps,

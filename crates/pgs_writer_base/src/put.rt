@@ -1,4 +1,5 @@
 // Numbers stored at a place. A byte whose place is past the end is left out.
+// Stays by output and place: a struct of both would hold the lent output, and each call would have to promise that it holds it still.
 ghost use Rattle.std.specs.Prelude.{◌≡◌};
 ghost use Rattle.std.proofs.lemmas.List.Edits.{sets};
 ghost use Rattle.pgs_base.specs.Bytes.{bytes_of};

@@ -26,35 +26,38 @@ pub(crate) fn refused(rt: &impl Print, why: Refusal, out: &[u8]) -> io::Result<(
     unchanged(rt, out)
 }
 
-// The answer of a writer and the output; where it is refused, whether the output is as it was.
-pub(crate) fn written(
-    rt: &impl Print,
-    title: &str,
-    answer: Result<usize, Refusal>,
-    out: &[u8],
-) -> io::Result<()> {
-    print!(rt; "{title}")?;
-    match answer {
-        Err(why) => refused(rt, why, out),
-        Ok(n) => {
-            print!(rt; ": written {n}")?;
-            bytes(rt, ",", out)
-        }
+// What a write gives that is not refused.
+pub(crate) trait Given: Drop {
+    fn print(self, rt: &impl Print) -> io::Result<()>;
+}
+
+// In how many bytes a segment was written.
+impl Given for usize {
+    fn print(self, rt: &impl Print) -> io::Result<()> {
+        print!(rt; ": written {self}")
     }
 }
 
-// The same of a list of writes.
-pub(crate) fn writes(
+// How many writes of a list were accepted, and in how many bytes.
+impl Given for (usize, usize) {
+    fn print(self, rt: &impl Print) -> io::Result<()> {
+        let (accepted, bytes) = self;
+        print!(rt; ": accepted {accepted}, written {bytes}")
+    }
+}
+
+// The answer of a write and the output; where it is refused, whether the output is as it was.
+pub(crate) fn written(
     rt: &impl Print,
     title: &str,
-    answer: Result<(usize, usize), Refusal>,
+    answer: Result<impl Given, Refusal>,
     out: &[u8],
 ) -> io::Result<()> {
     print!(rt; "{title}")?;
     match answer {
         Err(why) => refused(rt, why, out),
-        Ok((accepted, n)) => {
-            print!(rt; ": accepted {accepted}, written {n}")?;
+        Ok(given) => {
+            given.print(rt)?;
             bytes(rt, ",", out)
         }
     }

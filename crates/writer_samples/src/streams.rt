@@ -8,7 +8,7 @@ fn skipped(rt: &impl Print) -> io::Result<()> {
     let stream = b"PG\0\0\0\x01\0\0\0\x02\x99\0\x08abcdefghPG\0\0\0\x03\0\0\0\x04\x80\0\0";
     let mut out = [0xEEu8; 15];
     show::bytes(rt, "unknown, END:", stream)?;
-    show::writes(rt, "into 15", write_segments(stream, 2, &mut out), &out)
+    show::written(rt, "into 15", write_segments(stream, 2, &mut out), &out)
 }
 
 // Tails of a PCS and of a WDS are cut off.
@@ -21,9 +21,9 @@ fn tails(rt: &impl Print) -> io::Result<()> {
     let mut exact = [0xEEu8; 84];
     let mut short = [0xEEu8; 83];
     show::bytes(rt, "PCS with a tail, WDS with a tail, END:", stream)?;
-    show::writes(rt, "into 86", write_segments(stream, 3, &mut long), &long)?;
-    show::writes(rt, "into 84", write_segments(stream, 3, &mut exact), &exact)?;
-    show::writes(rt, "into 83", write_segments(stream, 3, &mut short), &short)
+    show::written(rt, "into 86", write_segments(stream, 3, &mut long), &long)?;
+    show::written(rt, "into 84", write_segments(stream, 3, &mut exact), &exact)?;
+    show::written(rt, "into 83", write_segments(stream, 3, &mut short), &short)
 }
 
 // One byte too many is a refused stream: nothing is written.
@@ -31,7 +31,7 @@ fn refused(rt: &impl Print) -> io::Result<()> {
     let mut out = [0xEEu8; 15];
     let stream = b"PG\0\0\0\x03\0\0\0\x04\x80\0\0P";
     show::bytes(rt, "END, one byte:", stream)?;
-    show::writes(rt, "into 15", write_segments(stream, 1, &mut out), &out)
+    show::written(rt, "into 15", write_segments(stream, 1, &mut out), &out)
 }
 
 pub(crate) fn samples(rt: &impl Print) -> io::Result<()> {

@@ -4,9 +4,10 @@ use mathlib.Core.Path.{◌≡◌, ◌∙◌, sym}
 use native.Mathlib.Omega.{arith}
 use lib.ListN.{drop}
 use Rattle.std.specs.Prelude.{Ok, Err}
-use Rattle.std.proofs.lemmas.Result.{err_from_is_err_and}
+use Rattle.pgs_base.proofs.Outcomes.{passed_verdict}
 use Rattle.pgs_run_length.specs.RunLength.{line_end, found, code_of}
 use Rattle.pgs_run_length.proofs.OneCode.{code-escape, escape-line-end}
+use Rattle.pgs_run_length.proofs.LiteralBytes.{literals-left}
 use Rattle.pgs_bitmap_check.specs.Bitmap.{reading_of}
 use Rattle.pgs_bitmap_check.specs.Progress.{Reached}
 use Rattle.pgs_bitmap_check.proofs.BitmapSteps.{reached-step, ended-stepped}
@@ -28,8 +29,11 @@ line-end-here c =
 pub loop-place-preserved-then-data-place-ne0 : goal.loop-place-preserved-then-data-place-ne0
 loop-place-preserved-then-data-place-ne0 c =
     let next = c.further-place.ensures in
-    let n = c.literals_from-n.ensures in
-    rw next (untested-literals _ c.loop-place.invariant.0 n.3 n.1, omega (arith, c.loop-place.invariant.1, n.0))
+    let n = c.literals_in-n.ensures in
+    rw next (
+      untested-literals _ c.loop-place.invariant.0 (literals-left c.args.«data».now c.loop-place.place.at _ n.3) (omega (arith, n.1)),
+      omega (arith, c.loop-place.invariant.1, n.0),
+    )
 
 pub loop-place-preserved-then-second-ne0 : goal.loop-place-preserved-then-second-ne0
 loop-place-preserved-then-second-ne0 c =
@@ -39,8 +43,9 @@ loop-place-preserved-then-second-ne0 c =
 pub returns-in_err-place : goal.returns-in_err-place
 returns-in_err-place c =
     let at = (goal.at.returns-in_err-place c).Else-width-place in
-    let p = err_from_is_err_and c.from_residual.result c.from_residual.ensures.1 in
-    rw (p.1, p.2) (ended-stepped (here at).inside (Err c.in_err-place.field-0.0) (line-end-here at) c.in_err-place.ensures ∙ (here at).same)
+    passed_verdict c.from_residual.result _ c.from_residual.ensures.1
+    ∙ ended-stepped (here at).inside (Err c.in_err-place.field-0.0) (line-end-here at) c.in_err-place.ensures
+    ∙ (here at).same
 
 pub loop-place-preserved : goal.loop-place-preserved
 loop-place-preserved c =

@@ -5,7 +5,7 @@ use Rattle.pgs_bitmap_check.proofs.bitmap.literals_by_eight.Goals as goal
 
 pub returns : goal.returns
 returns c =
-    let most = c.at_once-most.ensures in
+    let most = c.at_once.ensures in
     let eights = c.as_chunks.ensures in
-    let counted = counted-eights c.args.«data».now c.args.at c.at_once-most.result (omega (arith, most.0, c.requires)) eights.front eights.front_len c.full_eights.ensures in
-    (omega (arith, counted.0, most.0, c.requires), omega (arith, counted.0, most.1), counted.1)
+    let counted = counted-eights c.args.«data».now c.at_once.result most.0 eights.front eights.front_len c.full_eights.ensures in
+    (omega (arith, counted.0, most.0), omega (arith, counted.0, most.1), counted.1)

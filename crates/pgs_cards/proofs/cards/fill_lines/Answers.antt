@@ -8,14 +8,13 @@ use Rattle.pgs_stream.specs.Segments.{segments_left}
 use Rattle.pgs_stream.specs.declared.segments.PlacedSegment.{PlacedSegment}
 use Rattle.pgs_views.specs.Kinds.{type_of}
 use Rattle.pgs_views.specs.declared.segment_type.SegmentType.{SegmentType}
-use Rattle.pgs_cards.proofs.FillLaws.{Writing, answer, writing, writes-all, never-refused, more_fit, goes_on, line-fits, line-put}
+use Rattle.pgs_cards.proofs.FillLaws.{Writing, answer, writing, never-refused, goes_on, line-fits, line-put}
 use Rattle.pgs_cards.specs.Walks.{no_card}
 use Rattle.pgs_cards.specs.declared.card.Card.{Card}
 use Prim.Native.Nat.{ℕ, ◌+◌, ◌-◌, ◌≤◌}
-use lib.ListN.{length, take, drop, length-take, length-drop}
+use lib.ListN.{length, take, drop}
 use mathlib.Core.List.{List, ◌∷◌}
 use mathlib.Core.Path.{◌≡◌, refl, sym, ap, ◌∙◌}
-use native.Mathlib.Omega.{arith}
 use Rattle.pgs_cards.proofs.cards.fill_lines.Goals.{In-Some, Then-is_end}
 use Rattle.pgs_cards.proofs.cards.fill_lines.Goals as goal
 
@@ -59,24 +58,8 @@ fits c =
     (ap outcome (sym c.unwrap-body.ensures) ∙ (rw c.body-bytes.ensures at c.parse.ensures)) c.is_end.ensures
     c.if-is_end.true c.requires
 
-pub overflow_add-end : goal.overflow_add-end
-overflow_add-end c = omega (arith, fits (goal.at.overflow_add-end c).Then-is_end, c.loop-segment.auto.out, c.well_formed)
-
 pub slice_bounds-put_line-end : goal.slice_bounds-put_line-end
 slice_bounds-put_line-end c = fits (goal.at.slice_bounds-put_line-end c).Then-is_end
-
-pub put_line-requires : goal.put_line-requires
-put_line-requires c =
-    let d = (goal.at.put_line-requires c).Then-is_end in
-    omega (
-      arith,
-      fits d,
-      length-take (c.loop-segment.k + 35 - c.loop-segment.k) (drop c.loop-segment.k c.loop-segment.out),
-      length-drop c.loop-segment.k c.loop-segment.out,
-    )
-
-pub after-card-requires : goal.after-card-requires
-after-card-requires c = omega (arith, more_fit c.args.sets.stream.now (here (goal.at.after-card-requires c).In-Some), c.well_formed)
 
 pub loop-segment-preserved-then-is_end : goal.loop-segment-preserved-then-is_end
 loop-segment-preserved-then-is_end c =
@@ -88,6 +71,3 @@ pub loop-segment-preserved : goal.loop-segment-preserved
 loop-segment-preserved c =
     goes_on c.args.sets.stream.now (here (goal.at.loop-segment-preserved c).In-Some) c.kind-kind.ensures (ap outcome (sym c.unwrap-body.ensures) ∙ (rw c.body-bytes.ensures at c.parse.ensures))
     c.is_end.ensures c.if-is_end.false c.after-card.ensures
-
-pub returns : goal.returns
-returns c = writes-all c.args.sets.stream.now c.loop-segment.invariant c.in-None.ensures.steps.0

@@ -1,10 +1,7 @@
 -- `fill_hex` goes from the last digit to the first: the loop keeps `Filling`.
 -- Assumes nothing.
-use Rattle.pgs_cards.proofs.HexLaws.{filling, fills-on, filled-all}
+use Rattle.pgs_cards.proofs.HexLaws.{fills-on, filled-all}
 use Rattle.pgs_cards.proofs.line.fill_hex.Goals as goal
-
-pub loop-i-init : goal.loop-i-init
-loop-i-init c = filling c.args.out.now c.args.n
 
 pub loop-i-preserved : goal.loop-i-preserved
 loop-i-preserved c = fills-on c.loop-i.invariant c.loop-i-test.true c.digit.ensures

@@ -1,11 +1,8 @@
-use Rattle.pgs_cards.proofs.ReportLaws.{tested-sets, tested-count, says-too-long, says-refusal, says-cards, text-is}
+use Rattle.pgs_cards.proofs.ReportLaws.{says-too-long, says-refusal, says-cards, text-is}
 use Rattle.pgs_cards.proofs.report.write_report.Goals as goal
 
 pub returns-then-s-gt-INPUT_LIMIT : goal.returns-then-s-gt-INPUT_LIMIT
 returns-then-s-gt-INPUT_LIMIT c = text-is (says-too-long c.args.s.now c.if-s-gt-INPUT_LIMIT.true) c.put_text.ensures
-
-pub invariant_of-put_lines : goal.invariant_of-put_lines
-invariant_of-put_lines c = record { verdict = tested-sets c.args.s.now (c.in-Ok.ensures); counted = tested-count c.args.s.now (c.in-Ok.ensures) }
 
 pub returns-in-Err : goal.returns-in-Err
 returns-in-Err c = text-is (says-refusal c.args.s.now c.if-s-gt-INPUT_LIMIT.false (c.in-Err.ensures) c.number.ensures) c.put_refusal.ensures

@@ -1,62 +1,49 @@
-use Rattle.std.specs.Prelude.{Result, Ok, Err}
+use Rattle.std.specs.Prelude.{Result, Ok, Err, Some}
 use Rattle.std.specs.Result.{IsOk}
 use Rattle.pgs_base.specs.Outcome.{accepted, outcome}
 use Rattle.pgs_base.specs.declared.refusal.Refusal.{Refusal}
 use Rattle.pgs_ods.specs.declared.ods.Ods.{Ods}
-use Rattle.pgs_reassembly.specs.Objects.{is_ods}
-use Rattle.pgs_segment.specs.OneSegment.{segment_type, used_by}
-use Rattle.pgs_stream.specs.Stream.{step_verdict}
 use Rattle.pgs_records.specs.declared.BodyList.{BodyList}
-use Rattle.pgs_reassembly.proofs.FragmentLaws.{read_as, numbers-read, numbers-within, never-refused, head_read}
-use Rattle.pgs_set.proofs.WalkLaws.{within-here}
-use Prim.Native.Nat.{ℕ, ◌+◌, ◌-◌, ◌≤◌}
-use lib.ListN.{length, take, drop}
+use Rattle.pgs_reassembly.specs.Objects.{is_ods}
+use Rattle.pgs_reassembly.proofs.FragmentLaws.{read_as, body-lent, numbers-read, never-refused, head_read}
+use Rattle.pgs_segment.specs.OneSegment.{segment_type, body_at}
+use Rattle.pgs_stream.specs.Stream.{step_verdict}
+use lib.ListN.{drop}
 use mathlib.Core.List.{List}
 use mathlib.Core.Path.{◌≡◌, refl, ap, sym, ◌∙◌}
 use mathlib.Core.Bool.{true}
-use native.Mathlib.Omega.{arith}
+use Prim.Native.Nat.{ℕ}
+use Rattle.pgs_set.proofs.Choices.{pick_first}
+use Rattle.pgs_set.proofs.SegmentLaws.{Stands, stands-kind}
+use Rattle.pgs_reassembly.specs.Tables.{holds_fragment}
+use Rattle.pgs_object.proofs.chain.read_fragment.Goals.{Else-not-is_ods}
 use Rattle.pgs_object.proofs.chain.read_fragment.Goals as goal
 
--- the segment lies within the stream
-within : (s : List ℕ) (at : ℕ) {end : ℕ} → step_verdict (drop at s) ≡ accepted → end ≡ at + used_by (drop at s) → end ≤ length s
-within s at ok e = omega (arith, within-here s at ok)
+-- the segment stands in the stream, and is an ODS
+itself : (c : Else-not-is_ods) → Stands c.args.s.now c.args.segment
+itself c = record { step = c.requires.step; its = c.requires.stands }
 
-pub overflow_add-body : goal.overflow_add-body
-overflow_add-body c =
-    omega (arith, within c.args.s.now c.args.segment.at c.requires.step c.requires.end, c.requires.end)
+holds : (c : Else-not-is_ods) → holds_fragment c.args.segment ≡ true
+holds c = sym (c.is_ods.ensures ∙ ap is_ods c.kind.ensures) ∙ c.if-not-is_ods.false
 
-pub slice_bounds-parse-end : goal.slice_bounds-parse-end
-slice_bounds-parse-end c = within c.args.s.now c.args.segment.at c.requires.step c.requires.end
+kind : (c : Else-not-is_ods) → is_ods (segment_type (drop c.args.segment.at c.args.s.now)) ≡ true
+kind c = sym (ap is_ods (stands-kind (itself c))) ∙ holds c
 
-pub slice_bounds-parse-start : goal.slice_bounds-parse-start
-slice_bounds-parse-start c = omega (arith, c.requires.end)
-
--- the body is no error, since its segment is accepted
-read_whole : (s : List ℕ) (at : ℕ) {end : ℕ} (r : Result (Ods × BodyList) Refusal) → end ≡ at + used_by (drop at s)
-    → step_verdict (drop at s) ≡ accepted → is_ods (segment_type (drop at s)) ≡ true
-    → outcome r ≡ read_as (take (end - (at + 13)) (drop (at + 13) s)) → IsOk r
-read_whole s at (Ok x) e ok kind q = refl
-read_whole s at (Err w) e ok kind q = absurd (never-refused s at e ok kind q)
+-- so that reading its body is no error
+read_whole : (l : List ℕ) (r : Result (Ods × BodyList) Refusal) → step_verdict l ≡ accepted → is_ods (segment_type l) ≡ true
+    → outcome r ≡ read_as (body_at l) → IsOk r
+read_whole l (Ok x) ok k q = refl
+read_whole l (Err w) ok k q = absurd (never-refused l ok k q)
 
 pub unwrap-requires : goal.unwrap-requires
 unwrap-requires c =
-    read_whole c.args.s.now c.args.segment.at c.parse.result c.requires.end c.requires.step c.requires.kind c.parse.ensures
+    let e = (goal.at.unwrap-requires c).Else-not-is_ods in
+    read_whole (drop c.args.segment.at c.args.s.now) c.parse.result c.requires.step (kind e) (c.parse.ensures ∙ ap read_as (c.body.ensures ∙ body-lent (itself e)))
 
+-- and its numbers are those of the fragment
 pub returns : goal.returns
 returns c =
-    let s = c.args.s.now in
-    let at = c.args.segment.at in
-    head_read at (drop at s) (numbers-read s at c.requires.end (ap outcome (sym c.unwrap.ensures) ∙ c.parse.ensures))
-
-pub overflow_add-result : goal.overflow_add-result
-overflow_add-result c =
-    let s = c.args.s.now in
-    let at = c.args.segment.at in
-    let read = numbers-read s at c.requires.end (ap outcome (sym c.unwrap.ensures) ∙ c.parse.ensures) in
-    omega (
-      arith,
-      within s at c.requires.step c.requires.end,
-      c.requires.end,
-      ap (λ (x : BodyList). x.start) read.1,
-      numbers-within (drop at s) c.requires.step c.requires.kind,
-    )
+    let l = drop c.args.segment.at c.args.s.now in
+    let e = (goal.at.returns c).Else-not-is_ods in
+    let read = ap outcome (sym c.unwrap.ensures) ∙ c.parse.ensures ∙ ap read_as (c.body.ensures ∙ body-lent (itself e)) in
+    ap Some (head_read c.args.segment.at l (numbers-read (body_at l) read)) ∙ sym (pick_first _ _ (holds e))

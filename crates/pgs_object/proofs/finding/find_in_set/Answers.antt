@@ -1,15 +1,8 @@
-use Rattle.pgs_base.proofs.Outcomes.{passed_verdict}
-use Rattle.pgs_reassembly.proofs.ObjectLaws.{finding-refused, tests-end}
+use Rattle.pgs_reassembly.proofs.ObjectLaws.{tests-end}
 use Rattle.pgs_set.proofs.OpenLaws.{is-open}
 use mathlib.Core.Path.{refl, ap, ◌∙◌}
 use Rattle.pgs_reassembly.specs.Tables.{rows_verdict}
 use Rattle.pgs_object.proofs.finding.find_in_set.Goals as goal
-
-pub returns-in_err-find_chains : goal.returns-in_err-find_chains
-returns-in_err-find_chains c =
-    let set = c.args.set in
-    rw (passed_verdict c.from_residual.result _ c.from_residual.ensures.1)
-    (finding-refused set.stream.now (is-open set.stream.now set.from set.in_set) c.in_err-find_chains.ensures.chains c.in_err-find_chains.ensures.small refl)
 
 pub returns : goal.returns
 returns c =

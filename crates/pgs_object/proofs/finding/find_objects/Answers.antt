@@ -1,5 +1,5 @@
-use Rattle.pgs_base.proofs.Outcomes.{gave, turned_down, passed_verdict}
-use Rattle.pgs_reassembly.proofs.ObjectLaws.{set-found, no-set, found-refusal, unlisted, no_room, with-room}
+use Rattle.pgs_base.proofs.Outcomes.{gave, passed_verdict}
+use Rattle.pgs_reassembly.proofs.ObjectLaws.{set-found, unlisted, no_room, with-room}
 use Rattle.pgs_reassembly.specs.Objects.{objects_of, objects_verdict}
 use Rattle.pgs_set.proofs.NumberLaws.{stands-begins}
 use Rattle.pgs_set.specs.Sets.{set_number, set_verdict, set_record}
@@ -10,14 +10,6 @@ use Rattle.pgs_object.proofs.finding.find_objects.Goals as goal
 
 pub invariant_of-found : goal.invariant_of-found
 invariant_of-found c = record { begins = stands-begins c.args.s.now c.args.set (c.in_ok-place.ensures.stands _ refl) }
-
-pub returns-in_err-place : goal.returns-in_err-place
-returns-in_err-place c =
-    let s = c.args.s.now in
-    let k = c.args.set in
-    rw (passed_verdict c.from_residual.result _ c.from_residual.ensures.1)
-    (unlisted (objects_verdict k s) (objects_of k s) c.args.room
-    (found-refusal {now = c.args.table.now} (no-set 64 k s (turned_down (set_verdict k s) (set_record (set_number k s)) c.in_err-place.ensures.answered))))
 
 pub returns-in_err-find_in_set : goal.returns-in_err-find_in_set
 returns-in_err-find_in_set c =

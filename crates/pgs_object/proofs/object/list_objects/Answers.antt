@@ -1,32 +1,25 @@
--- `list_objects` finds the objects, for a list with room for them, then stores the records.
+-- `list_objects` finds the set, then lists its objects.
 -- Assumes nothing.
-use Rattle.pgs_base.proofs.Outcomes.{passed_on}
-use Rattle.pgs_reassembly.proofs.ObjectLaws.{lists-refusal, lists-all, fits-list}
-use Rattle.pgs_reassembly.specs.Objects.{objects_of, objects_verdict}
-use mathlib.Core.Path.{refl, sym}
-use native.Mathlib.Omega.{arith}
+use Rattle.pgs_base.proofs.Outcomes.{passed_on, gave, turned_down, delivers-refusal}
+use Rattle.pgs_reassembly.proofs.ObjectLaws.{set-listed, no-set}
+use Rattle.pgs_set.proofs.NumberLaws.{stands-begins}
+use Rattle.pgs_set.specs.Sets.{set_number, set_verdict, set_record}
+use mathlib.Core.Path.{refl}
 use Rattle.pgs_object.proofs.object.list_objects.Goals as goal
 
-pub returns-in_err-find_objects : goal.returns-in_err-find_objects
-returns-in_err-find_objects g c =
+pub returns-in_err-place : goal.returns-in_err-place
+returns-in_err-place g c =
     let s = c.args.s.now in
     let k = c.args.set in
     rw (passed_on c.from_residual.result _ c.from_residual.ensures.1)
-    (lists-refusal g.R.FromObject.from_object (objects_verdict k s) (objects_of k s) c.args.objects.now c.in_err-find_objects.ensures)
+    (delivers-refusal (no-set 64 k s (turned_down (set_verdict k s) (set_record (set_number k s)) c.in_err-place.ensures.answered)))
 
-pub list_records-requires : goal.list_records-requires
-list_records-requires g c =
-    let s = c.args.s.now in
-    let k = c.args.set in
-    let f = rw (sym c.chains-rows.ensures) at c.in_ok-find_objects.ensures in
-    record {
-      rows_bound = omega (arith, c.well_formed.0.0, (f.found refl).small);
-      rows_in_bounds = fits-list g.R.FromObject.from_object (objects_verdict k s) (objects_of k s) c.args.objects.now f;
-    }
+pub invariant_of-found : goal.invariant_of-found
+invariant_of-found g c = record { begins = stands-begins c.args.s.now c.args.set (c.in_ok-place.ensures.stands _ refl) }
 
 pub returns : goal.returns
 returns g c =
     let s = c.args.s.now in
     let k = c.args.set in
-    let f = rw (sym c.chains-rows.ensures) at c.in_ok-find_objects.ensures in
-    lists-all g.R.FromObject.from_object (objects_verdict k s) (objects_of k s) c.args.objects.now f c.list_records.ensures
+    let a = gave (set_verdict k s) (set_record (set_number k s)) c.in_ok-place.ensures.answered in
+    set-listed s k (c.in_ok-place.ensures.stands _ refl) a c.«open».ensures.stream_value c.«open».ensures.from_value g.R.FromObject.from_object c.list_in_set.ensures

@@ -1,19 +1,11 @@
 -- `reassemble_objects` finds the objects, for a list with room for them, tests the scratch, then lists and joins them.
 -- Assumes nothing.
-use Rattle.pgs_base.proofs.Outcomes.{passed_on}
 use Rattle.pgs_reassembly.proofs.ListingLaws.{joined-total, joined-sum}
-use Rattle.pgs_reassembly.proofs.ObjectLaws.{reassembles-refusal, reassembles-short, reassembles-all, fits-list}
+use Rattle.pgs_reassembly.proofs.ObjectLaws.{reassembles-short, reassembles-all}
 use Rattle.pgs_reassembly.specs.Objects.{objects_of, objects_verdict}
 use mathlib.Core.Path.{refl, sym}
 use native.Mathlib.Omega.{arith}
 use Rattle.pgs_object.proofs.object.reassemble_objects.Goals as goal
-
-pub returns-in_err-find_objects : goal.returns-in_err-find_objects
-returns-in_err-find_objects g c =
-    let s = c.args.s.now in
-    let k = c.args.set in
-    rw (passed_on c.from_residual.result _ c.from_residual.ensures.1)
-    (reassembles-refusal g.R.FromObject.from_object (objects_verdict k s) (objects_of k s) c.args.objects.now c.args.scratch.now c.in_err-find_objects.ensures)
 
 pub joined_length-requires : goal.joined_length-requires
 joined_length-requires g c =
@@ -28,16 +20,6 @@ returns-then-scratch-joined_length g c =
     let f = rw (sym c.chains-rows.ensures) at c.in_ok-find_objects.ensures in
     reassembles-short g.R.FromObject.from_object (objects_verdict k s) (objects_of k s) c.args.objects.now c.args.scratch.now f
     (omega (arith, c.if-scratch-joined_length.true, c.joined_length.ensures, joined-sum c.chains-rows.result.now))
-
-pub list_records-requires : goal.list_records-requires
-list_records-requires g c =
-    let s = c.args.s.now in
-    let k = c.args.set in
-    let f = rw (sym c.chains-rows.ensures) at c.in_ok-find_objects.ensures in
-    record {
-      rows_bound = omega (arith, c.well_formed.0.0, (f.found refl).small);
-      rows_in_bounds = fits-list g.R.FromObject.from_object (objects_verdict k s) (objects_of k s) c.args.objects.now f;
-    }
 
 pub join_objects-requires : goal.join_objects-requires
 join_objects-requires g c =

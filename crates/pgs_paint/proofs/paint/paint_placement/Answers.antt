@@ -3,21 +3,21 @@ use Rattle.std.proofs.Common.{ap, length, arith}
 use Rattle.pgs_plane.specs.Placing.{image_of, table_color}
 use Rattle.pgs_plane.proofs.CallLaws.{changes, all-fit}
 use Rattle.pgs_paint.proofs.PlaneLaws.{no-columns, no-rows-shown}
-use Rattle.pgs_paint.proofs.paint.paint_placement.Goals.{then-shown-eq0-via-then-shown-eq0, then-shown-eq0-via-else-shown-eq0+then-shown-eq0-2}
+use Rattle.pgs_paint.proofs.paint.paint_placement.Goals.{then-visible-eq0-via-then-visible-eq0, then-visible-eq0-via-else-visible-eq0+then-visible-eq0-2}
 use Rattle.pgs_paint.proofs.paint.paint_placement.Goals as goal
 
-pub returns-then-shown-eq0 : goal.returns-then-shown-eq0
-returns-then-shown-eq0 c =
+pub returns-then-visible-eq0 : goal.returns-then-visible-eq0
+returns-then-visible-eq0 c =
     let args = c.args in
     let size = args.size in
     let image = image_of args.image.size.width args.image.size.height args.image.indices.now in
-    let exactly = c.clip-shown.ensures.by_index args.image.indices.now in
+    let exactly = c.clip-visible.ensures.by_index args.image.indices.now in
     changes
     (all-fit image args.table.now size.width size.height args.plane.now
     (omega arith) (omega (arith, ap length c.in_ok-table.ensures.bytes)) (omega arith))
-    (elim c.then-shown-eq0.branch [
-      | then-shown-eq0-via-then-shown-eq0 w ↦
-          no-columns (table_color args.table.now) _ c.clip-shown.result image size.width size.height exactly args.plane.now w.if-shown-eq0.true
-      | then-shown-eq0-via-else-shown-eq0+then-shown-eq0-2 w ↦
-          no-rows-shown (table_color args.table.now) _ c.clip-shown.result image size.width size.height exactly args.plane.now w.if-shown-eq0-2.true
+    (elim c.then-visible-eq0.branch [
+      | then-visible-eq0-via-then-visible-eq0 w ↦
+          no-columns (table_color args.table.now) _ c.clip-visible.result image size.width size.height exactly args.plane.now w.if-visible-eq0.true
+      | then-visible-eq0-via-else-visible-eq0+then-visible-eq0-2 w ↦
+          no-rows-shown (table_color args.table.now) _ c.clip-visible.result image size.width size.height exactly args.plane.now w.if-visible-eq0-2.true
     ])

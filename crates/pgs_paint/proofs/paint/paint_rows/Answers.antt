@@ -6,7 +6,7 @@ use Rattle.pgs_paint.proofs.paint.paint_rows.Goals.{In-loop-j}
 use Rattle.pgs_paint.proofs.paint.paint_rows.Goals as goal
 
 -- the places of this turn's row
-here : (c : In-loop-j) → Room c.args.shown c.args.image.size.width c.args.image.size.height c.args.size.width c.args.size.height c.loop-j.j
+here : (c : In-loop-j) → Room c.args.visible c.args.image.size.width c.args.image.size.height c.args.size.width c.args.size.height c.loop-j.j
 here c =
     let pre = c.requires in
     room pre.bounds pre.some_columns (omega (arith, c.loop-j-test.true, c.from-j-end.ensures))
@@ -25,21 +25,21 @@ slice_bounds-paint_row-end c =
 pub slice_bounds-paint_row-end-in-loop-j : goal.slice_bounds-paint_row-end-in-loop-j
 slice_bounds-paint_row-end-in-loop-j c =
     let args = c.args in
-    rw (c.from-columns.ensures, target args.size.width (args.shown.y + c.loop-j.j) args.shown.x c.place-to.ensures)
+    rw (c.from-columns.ensures, target args.size.width (args.visible.y + c.loop-j.j) args.visible.x c.place-to.ensures)
     (omega (arith, here (goal.at.slice_bounds-paint_row-end-in-loop-j c).In-loop-j, c.requires))
 
 pub loop-j-preserved : goal.loop-j-preserved
 loop-j-preserved c =
     let args = c.args in
     let pre = c.requires in
-    let shown = args.shown in
+    let visible = args.visible in
     let loop = c.loop-j in
     let columns = c.from-columns.ensures in
     let from = c.place-from.ensures in
-    let to = target args.size.width (shown.y + loop.j) shown.x c.place-to.ensures in
+    let to = target args.size.width (visible.y + loop.j) visible.x c.place-to.ensures in
     λ layer e.
     rw (columns, to)
-    (row_laid args.table.bytes.now args.image.indices.now args.plane.now loop.plane c.paint_row.new.row shown args.image.size.width
+    (row_laid args.table.bytes.now args.image.indices.now args.plane.now loop.plane c.paint_row.new.row visible args.image.size.width
     args.image.size.height args.size.width args.size.height loop.j (here (goal.at.loop-j-preserved c).In-loop-j)
     (omega (arith, c.loop-j-test.true, c.from-j-end.ensures)) pre.image_room pre.plane_room loop.auto.plane
     (rw (columns, from) at c.paint_row.ensures) layer e (loop.invariant layer e))
@@ -51,4 +51,4 @@ returns c =
     let last = c.from-j-end.ensures in
     λ layer e.
     loop.invariant layer e
-    ∙ rows_end _ layer c.args.shown _ _ _ e _ loop.j inside (omega (arith, loop.auto.j-end, last)) (omega (arith, c.loop-j-test.false, last))
+    ∙ rows_end _ layer c.args.visible _ _ _ e _ loop.j inside (omega (arith, loop.auto.j-end, last)) (omega (arith, c.loop-j-test.false, last))

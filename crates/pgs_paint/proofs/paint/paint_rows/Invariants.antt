@@ -8,5 +8,5 @@ use Rattle.pgs_paint.proofs.paint.paint_rows.Given as goal
 
 abbrev pub invariant-loop-j : goal.invariant-loop-j
 invariant-loop-j l =
-    (layer : Layer) → Exactly layer l.shown (image_of l.image.size.width l.image.size.height l.image.indices.now) l.fn.size.width l.fn.size.height
-    → l.plane ≡ first_rows (table_color l.table.bytes.now) layer l.fn.size.width (l.shown.y + l.j) l.initial.plane
+    (layer : Layer) → Exactly layer l.visible (image_of l.image.size.width l.image.size.height l.image.indices.now) l.fn.size.width l.fn.size.height
+    → l.plane ≡ first_rows (table_color l.table.bytes.now) layer l.fn.size.width (l.visible.y + l.j) l.initial.plane

@@ -6,12 +6,6 @@ use Rattle.pgs_rendering.proofs.PaletteLaws.{chunks-are, chunks-laid}
 use native.Mathlib.Omega.{arith}
 use Rattle.pgs_render.proofs.palette.lay_palette.Goals as goal
 
-pub slice_bounds-as_chunks-start : goal.slice_bounds-as_chunks-start
-slice_bounds-as_chunks-start c = has-numbers c.args.body.now c.requires
-
-pub bounds-body-0 : goal.bounds-body-0
-bounds-body-0 c = omega (arith, has-numbers c.args.body.now c.requires)
-
 pub returns : goal.returns
 returns c =
     let body = c.args.body.now in

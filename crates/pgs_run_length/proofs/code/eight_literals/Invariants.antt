@@ -4,4 +4,4 @@ use Rattle.pgs_run_length.specs.Literals.{literals}
 use Rattle.pgs_run_length.proofs.code.eight_literals.Given as goal
 
 abbrev pub invariant-loop-byte : goal.invariant-loop-byte
-invariant-loop-byte l = l.all ≡ literals l.«data» l.at l.byte-index
+invariant-loop-byte l = l.all ≡ literals l.«data» 0 l.byte-index

@@ -3,7 +3,7 @@
 use Prim.Native.Nat.{ℕ}
 use Rattle.pgs_base.proofs.Outcomes.{gave, gave-value, turned_down, gives_as, refuses-as, passed_on}
 use Rattle.pgs_base.specs.Outcome.{gives, outcome_of, accepted}
-use Rattle.pgs_segment.proofs.SegmentLaws.{head-decides, body-past-end, body-decides, lent-body}
+use Rattle.pgs_segment.proofs.SegmentLaws.{body-decides, lent-body}
 use Rattle.pgs_segment.specs.Fields.{body_verdict, body_list}
 use Rattle.pgs_segment.specs.Header.{header_verdict, header_fields, size_of, kind_of}
 use Rattle.pgs_views.specs.Kinds.{type_of}
@@ -24,19 +24,6 @@ module _ (l : List ℕ) {h : SegmentHeader} (e : gives h ≡ outcome_of (header_
 
   kind-is : h.segment_type ≡ kind_of l
   kind-is = ap (λ (x : SegmentHeader). x.segment_type) (gave-value (header_verdict l) (header_fields l) e)
-
-pub returns-then-buf-used : goal.returns-then-buf-used
-returns-then-buf-used c =
-    let l = c.args.buf.now in
-    let e = c.in_ok-header.ensures in
-    refuses-as (frame_of l) (body-past-end l (ok l e) (omega (arith, size_is l e)))
-
-pub returns-in_err-header : goal.returns-in_err-header
-returns-in_err-header c =
-    let l = c.args.buf.now in
-    passed_on c.from_residual.result _ c.from_residual.ensures.1
-    ∙ refuses-as (frame_of l)
-    (head-decides l (turned_down (header_verdict l) (header_fields l) (c.in_err-header.ensures)))
 
 pub returns-in_err-list : goal.returns-in_err-list
 returns-in_err-list c =

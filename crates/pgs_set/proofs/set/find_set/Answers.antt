@@ -1,7 +1,7 @@
 use Rattle.std.proofs.lemmas.Iterator.Consumers.{nth_from_yields_List, YieldsList-from_first}
 use Rattle.std.specs.List.{slice_get}
 use Rattle.std.specs.Option.{option_map}
-use Rattle.pgs_set.proofs.NumberLaws.{finds_past, finds-set, number-found}
+use Rattle.pgs_set.proofs.NumberLaws.{finds-set, number-found}
 use Rattle.pgs_set.specs.Records.{records_left, set_records}
 use Prim.Native.Nat.{◌<◌}
 use mathlib.Core.Path.{◌≡◌, refl}
@@ -15,11 +15,6 @@ its : (c : After-nth) → option_map (λ x. x) c.nth.result ≡ slice_get (set_r
 its c =
     nth_from_yields_List c.nth.result c.nth.new.self c.args.k c.nth.ensures.ran
     (YieldsList-from_first (λ x. x) records_left (set_records c.in_ok-sets.sets.stream.now) c.records.ensures)
-
-pub returns-then-sets-k : goal.returns-then-sets-k
-returns-then-sets-k c =
-    let d = c.in_ok-sets.sets in
-    rw (← c.in_ok-sets.ensures) (finds_past d.stream.now c.args.k d.verdict (omega (arith, d.counted, c.if-sets-k.true)))
 
 pub unwrap-requires : goal.unwrap-requires
 unwrap-requires c =

@@ -1,4 +1,4 @@
-use Rattle.pgs_base.proofs.Outcomes.{gave, turned_down, refuses-as, passed_on}
+use Rattle.pgs_base.proofs.Outcomes.{turned_down, refuses-as, passed_on}
 use Rattle.pgs_base.specs.Outcome.{Verdict, refused, and_then}
 use Rattle.pgs_base.specs.Refusals.{number_of}
 use Rattle.pgs_stream.specs.Stream.{stream_verdict, segment_count}
@@ -12,6 +12,3 @@ returns-in_err-count_segments c =
     ∙ refuses-as 0
     (ap (λ (v : Verdict). and_then v (refused (number_of c.args.why)))
     (turned_down (stream_verdict l) (segment_count l) (c.in_err-count_segments.ensures)))
-
-pub returns : goal.returns
-returns c = let l = c.args.rest.now in refuses-as 0 (ap (λ (v : Verdict). and_then v (refused (number_of c.args.why))) (gave (stream_verdict l) (segment_count l) (c.in_ok-count_segments.ensures)))

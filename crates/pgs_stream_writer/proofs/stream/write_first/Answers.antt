@@ -1,27 +1,9 @@
 -- `write_first` performs one write after another: the loop keeps `Performing`.
 -- Assumes nothing.
-use Rattle.pgs_stream.specs.Segments.{segments_left}
-use Rattle.pgs_stream_writer.proofs.StreamWriteLaws.{
-  performing,
-  performed,
-  next-within,
-  next-lent,
-  performed-next,
-  bytes_written,
-  writes_accepted,
-  none-written,
-}
-use mathlib.Core.Path.{sym, ap, ◌∙◌}
+use Rattle.pgs_stream_writer.proofs.StreamWriteLaws.{performed, next-within, next-lent, performed-next, bytes_written, writes_accepted, none-written}
+use mathlib.Core.Path.{sym, ap}
 use native.Mathlib.Omega.{arith}
 use Rattle.pgs_stream_writer.proofs.stream.write_first.Goals as goal
-
-pub loop-segment-init : goal.loop-segment-init
-loop-segment-init c =
-    let is = c.into_iter-segment-iterator.ensures.into_iter_gives in
-    let made = c.take-segment-items.ensures in
-    performing c.args.s.now c.args.n c.args.out.now c.requires
-    (ap (λ t. t.n) is ∙ made.count)
-    (ap (λ t. segments_left t.iter) is ∙ ap segments_left made.source)
 
 pub slice_bounds-rewrite_segment-count : goal.slice_bounds-rewrite_segment-count
 slice_bounds-rewrite_segment-count c =

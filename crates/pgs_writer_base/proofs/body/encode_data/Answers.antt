@@ -2,23 +2,14 @@
 -- Assumes nothing.
 use Rattle.std.proofs.Common.{ℕ, ◌≡◌, ◌<◌, ◌++◌, length, true, arith, length-append}
 use borrow.Author.Tests.{le-leb}
-use Rattle.pgs_base.specs.declared.refusal.Refusal.TheVariants.{NotEncodable}
 use Rattle.pgs_base.proofs.Outcomes.{passed_on}
-use Rattle.pgs_writer_base.proofs.BodyLaws.{size-large, front-short, front-then}
-use Rattle.pgs_writer_base.proofs.WriteLaws.{write-35}
-use Rattle.pgs_writer_base.specs.Bodies.{is_body_size, segment_bytes}
+use Rattle.pgs_writer_base.proofs.BodyLaws.{front-short, front-then}
+use Rattle.pgs_writer_base.specs.Bodies.{is_body_size}
 use Rattle.pgs_writer_base.proofs.body.encode_data.Goals as goal
 
 -- a size that fits its field
 fits : (n : ℕ) → n < 65536 → is_body_size n ≡ true
 fits n h = le-leb n 65535 (omega arith)
-
-pub returns-in_err-size : goal.returns-in_err-size
-returns-in_err-size c =
-    let body = c.args.numbers.now ++ c.args.«data».now in
-    rw (passed_on c.from_residual.result NotEncodable c.from_residual.ensures.1)
-    (write-35 (segment_bytes c.args.times c.args.kind body) c.args.out.now
-    (size-large (length body) (omega (arith, c.in_err-size.ensures, length-append c.args.numbers.now c.args.«data».now))))
 
 pub returns-in_err-total : goal.returns-in_err-total
 returns-in_err-total c =

@@ -1,26 +1,10 @@
 -- `encode_list` tests the rows and the size, then stores the front, then the rows.
 -- Assumes nothing.
-use Rattle.std.proofs.Common.{length, ◌∙◌, sym}
-use Rattle.pgs_base.proofs.Outcomes.{delivers-passed, gave-value, passed_on}
+use Rattle.std.proofs.Common.{◌∙◌, sym}
+use Rattle.pgs_base.proofs.Outcomes.{gave-value, passed_on}
 use Rattle.pgs_encoding.specs.Layout.{record_bytes}
-use Rattle.pgs_writer_base.proofs.BodyLaws.{rows-unfit, size-unfit, list-fit, front-short, front-then}
-use Rattle.pgs_writer_base.proofs.WriteLaws.{write-35}
-use Rattle.pgs_writer_base.specs.Bodies.{list_body, segment_bytes}
+use Rattle.pgs_writer_base.proofs.BodyLaws.{list-fit, front-short, front-then}
 use Rattle.pgs_writer_base.proofs.body.encode_list.Goals as goal
-
-pub returns-then-not-rows_fit : goal.returns-then-not-rows_fit
-returns-then-not-rows_fit g c =
-    let b = c.args.numbers.now in
-    let w = g.W.RowWriter in
-    write-35 (segment_bytes c.args.times c.args.kind (list_body w.fields b c.args.rows.now)) c.args.out.now
-    (rows-unfit w.fields w.fits b c.args.rows.now (sym c.rows_fit.ensures ∙ c.if-not-rows_fit.true))
-
-pub returns-in_err-size : goal.returns-in_err-size
-returns-in_err-size g c =
-    let b = c.args.numbers.now in
-    let w = g.W.RowWriter in
-    delivers-passed (length (list_body w.fields b c.args.rows.now)) c.from_residual.result _ c.from_residual.ensures.1
-    (size-unfit w.fields w.fits b c.args.rows.now (length (list_body w.fields b c.args.rows.now)) c.in_err-size.ensures)
 
 pub returns-in_err-total : goal.returns-in_err-total
 returns-in_err-total g c =

@@ -5,9 +5,6 @@ use Rattle.pgs_bitmap_check.proofs.UntestedWidth.{onward-none, onward-pixel}
 use Rattle.pgs_bitmap_check.proofs.LiteralStretch.{onward-literals}
 use Rattle.pgs_bitmap_check.proofs.bitmap.Place.pixels_at.Goals as goal
 
-pub returns-then-data-self-eq0 : goal.returns-then-data-self-eq0
-returns-then-data-self-eq0 c = (omega arith, onward-none)
-
 pub returns-then-data-self-eq0-2 : goal.returns-then-data-self-eq0-2
 returns-then-data-self-eq0-2 c =
     let next = c.further.ensures in

@@ -7,19 +7,15 @@ use Rattle.pgs_run_length.proofs.OneCode.{run-short-color}
 use Rattle.pgs_bitmap_store.proofs.BitmapStores.{storing-escape}
 use Rattle.pgs_bitmap_store.proofs.bitmap.Spot.store_color.Goals as goal
 
-pub store_literal-requires : goal.store_literal-requires
-store_literal-requires c =
+pub store_literal-requires-clause-storing : goal.store_literal-requires-clause-storing
+store_literal-requires-clause-storing c =
     let l = c.args.«data».now in
     let at = c.args.self.at in
     let low = c.short_count-count.ensures in
     let filled = c.fill_short in
     let next = c.further.ensures in
     let code = c.requires.code in
-    rw next (record {
-      there = omega arith;
-      room = omega (arith, low, filled.auto.pixels);
-      storing =
-          storing-escape c.requires.storing (omega arith) code.zero
-          (run-short-color (get_or l (at + 1) 0) _ (get_or l (at + 2) 0 ∷ get_or l (at + 3) 0 ∷ []) low (omega (arith, code.from_low)) code.from_low code.to_high)
-          filled.auto.pixels filled.ensures;
-    })
+    rw next
+    (storing-escape c.requires.storing (omega arith) code.zero
+    (run-short-color (get_or l (at + 1) 0) _ (get_or l (at + 2) 0 ∷ get_or l (at + 3) 0 ∷ []) low (omega (arith, code.from_low)) code.from_low code.to_high)
+    filled.auto.pixels filled.ensures)

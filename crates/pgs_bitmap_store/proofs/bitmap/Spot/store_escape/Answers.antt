@@ -9,21 +9,17 @@ use Rattle.pgs_run_length.proofs.OneCode.{run-short-zero, run-long-color}
 use Rattle.pgs_bitmap_store.proofs.BitmapStores.{block-fills, storing-escape}
 use Rattle.pgs_bitmap_store.proofs.bitmap.Spot.store_escape.Goals as goal
 
-pub store_stroke-requires : goal.store_stroke-requires
-store_stroke-requires c =
+pub store_stroke-requires-clause-storing : goal.store_stroke-requires-clause-storing
+store_stroke-requires-clause-storing c =
     let l = c.args.«data».now in
     let at = c.args.self.at in
     let low = c.short_count.ensures in
     let block = c.fill_exactly in
     let next = c.further.ensures in
-    rw next (record {
-      there = omega arith;
-      room = omega (arith, low, block.auto.pixels);
-      storing =
-          storing-escape c.requires.storing (omega arith) c.requires.code
-          (run-short-zero (get_or l (at + 1) 0) _ (get_or l (at + 2) 0 ∷ get_or l (at + 3) 0 ∷ []) low c.if-second-lt64.true)
-          block.auto.pixels (block-fills 64 (omega (arith, low)) (omega arith) block.ensures);
-    })
+    rw next
+    (storing-escape c.requires.storing (omega arith) c.requires.code
+    (run-short-zero (get_or l (at + 1) 0) _ (get_or l (at + 2) 0 ∷ get_or l (at + 3) 0 ∷ []) low c.if-second-lt64.true)
+    block.auto.pixels (block-fills 64 (omega (arith, low)) (omega arith) block.ensures))
 
 pub returns : goal.returns
 returns c =

@@ -14,18 +14,14 @@ the-run : (second third fourth : ℕ) {count : ℕ} → count ≡ 256 * (second 
 the-run second third fourth is h k =
     ap (λ (n : ℕ). found (run n 0) 3) is ∙ run-long-zero second (second % 64) (third ∷ fourth ∷ []) refl h k
 
-pub store_literal-requires : goal.store_literal-requires
-store_literal-requires c =
+pub store_literal-requires-clause-storing : goal.store_literal-requires-clause-storing
+store_literal-requires-clause-storing c =
     let block = c.fill_exactly in
     let next = c.further.ensures in
     let code = c.requires.code in
-    rw next (record {
-      there = omega arith;
-      room = omega (arith, c.if-count-le128.true, block.auto.pixels);
-      storing =
-          storing-escape c.requires.storing (omega arith) code.zero (the-run _ _ _ c.long_count-count.ensures.0 code.from_low code.to_high) block.auto.pixels
-          (block-fills 128 c.if-count-le128.true (omega arith) block.ensures);
-    })
+    rw next
+    (storing-escape c.requires.storing (omega arith) code.zero (the-run _ _ _ c.long_count-count.ensures.0 code.from_low code.to_high) block.auto.pixels
+    (block-fills 128 c.if-count-le128.true (omega arith) block.ensures))
 
 pub returns : goal.returns
 returns c =

@@ -40,4 +40,4 @@ returns-in-None c =
 pub returns-else-row : goal.returns-else-row
 returns-else-row c =
     let t = c.self.inside in
-    continued-on c.args.f t.rows t.count (omega arith) c.self.view_is c.in-Some.ensures c.if-row.false c.is_closing.ensures
+    continued-on c.args.f t.rows t.count (omega arith) c.self.view_is c.in-Some.ensures c.if-row.false c.is_last.ensures

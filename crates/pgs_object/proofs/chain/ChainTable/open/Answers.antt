@@ -34,4 +34,4 @@ returns-then-self-eq-OBJECT_LIMIT c =
 pub returns-else-self-eq-OBJECT_LIMIT : goal.returns-else-self-eq-OBJECT_LIMIT
 returns-else-self-eq-OBJECT_LIMIT c =
     let t = c.self.inside in
-    opened-new c.args.f t.rows t.count (omega arith) c.self.view_is c.in-None.ensures (omega arith) (omega arith) c.is_closing.ensures
+    opened-new c.args.f t.rows t.count (omega arith) c.self.view_is c.in-None.ensures (omega arith) (omega arith) c.is_last.ensures

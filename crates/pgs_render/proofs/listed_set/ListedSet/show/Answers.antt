@@ -1,4 +1,6 @@
+use mathlib.Core.Path.{ap}
 use native.Mathlib.Omega.{arith}
+use Rattle.pgs_rendering.specs.declared.Shown.{Shown}
 use Rattle.pgs_rendering.proofs.RenderLaws.{ready-storable, ready-present, ready-room, ready-stored, ready-painted}
 use Rattle.pgs_render.proofs.listed_set.ListedSet.show.Goals as goal
 
@@ -19,6 +21,6 @@ returns c =
     record {
       stored = ready-stored o.number o.others.stream.now o.listed c.requires c.store_bitmaps.ensures;
       shown =
-          ready-painted o.number o.others.stream.now o.listed c.requires c.store_bitmaps.ensures o.composed c.composition-pcs.ensures o.bytes
-          c.color_table-table.ensures c.placements.ensures (rw c.plane_size-size.ensures at c.clear_plane.ensures) (rw c.plane_size-size.ensures at c.paint_placements.ensures);
+          ready-painted o.number o.others.stream.now o.listed c.requires c.store_bitmaps.ensures o.composed c.composition.ensures o.bytes
+          c.color_table-table.ensures (ap (λ (a : Shown). a.size) c.answer.ensures) c.placements.ensures c.clear_plane.ensures c.paint_placements.ensures;
     }

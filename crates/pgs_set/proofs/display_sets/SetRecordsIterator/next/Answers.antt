@@ -13,13 +13,13 @@ use Rattle.pgs_set.proofs.display_sets.SetRecordsIterator.next.Goals as goal
 -- the record of the next set, and those of the sets after it
 step : (c : After-end-end)
     → map set_record (sets_from c.args.self.now.at (pieces_at c.args.self.now.stream.now c.args.self.now.at))
-    ≡ record { place = c.args.self.now.at; end = c.end-end.result; pts = c.header_at-header.result.pts }
+    ≡ record { place = c.args.self.now.at; end = c.end-end.result; pts = c.split_first.result.0.header.pts }
     ∷ map set_record (sets_from c.end-end.result (pieces_at c.args.self.now.stream.now c.end-end.result))
 step c =
     let it = c.args.self.now in
     let s = it.stream.now in
-    let e : Ends s (it.at + used_by (drop it.at s)) c.end-end.result = rw (c.open_behind.ensures.stream_value, c.open_behind.ensures.from_value) at c.end-end.ensures in
-    next-records s (record { standing = it.standing; more = c.if-s-place.false }) e (ap (λ h. h.pts) c.header_at-header.ensures)
+    let e : Ends s (it.at + used_by (drop it.at s)) c.end-end.result = rw (c.split_first.ensures.stream_value, c.split_first.ensures.from_value) at c.end-end.ensures in
+    next-records s (record { standing = it.standing; more = c.if-s-place.false }) e (ap (λ x. x.header.pts) c.split_first.ensures.pcs_value)
 
 pub returns-then-s-place-clause-steps : goal.returns-then-s-place-clause-steps
 returns-then-s-place-clause-steps c =

@@ -1,19 +1,12 @@
 use Rattle.pgs_set.proofs.OpenLaws.{is-open}
 use Rattle.pgs_set.proofs.SegmentLaws.{first-last, first-more, opens-on}
-use Rattle.pgs_set.proofs.SetLaws.{read-within, inside-here}
 use Rattle.pgs_set.specs.Walks.{InSet}
 use Rattle.pgs_set.specs.declared.open_set.OpenSet.{OpenSet}
 use Rattle.std.proofs.lemmas.Grind.{merely}
-use native.Mathlib.Omega.{arith}
 use Rattle.pgs_set.proofs.open_set.OpenSet.split_first.Goals as goal
 
 in-set : (o : OpenSet) → InSet o.stream.now o.from
 in-set o = is-open o.stream.now o.from o.in_set
-
-pub overflow_add-end : goal.overflow_add-end
-overflow_add-end c =
-    let o = c.args.self in
-    omega (arith, c.well_formed, read-within o.stream.now o.from (inside-here o.stream.now (in-set o)) c.header_at-header.ensures, c.used.ensures)
 
 pub returns-then-is_end : goal.returns-then-is_end
 returns-then-is_end c =

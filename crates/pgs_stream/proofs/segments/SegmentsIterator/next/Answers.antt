@@ -2,7 +2,7 @@
 -- Assumes nothing.
 use Prim.Native.Nat.{ℕ, ◌+◌}
 use mathlib.Core.List.{List, ◌∷◌}
-use mathlib.Core.Path.{◌≡◌, ap, ◌∙◌}
+use mathlib.Core.Path.{◌≡◌, ap}
 use native.Mathlib.Omega.{arith}
 use lib.ListN.{length, drop}
 use Rattle.pgs_segment.specs.Header.{header_fields}
@@ -10,7 +10,7 @@ use Rattle.pgs_segment.specs.OneSegment.{used_by}
 use Rattle.pgs_segment.specs.declared.header.SegmentHeader.{SegmentHeader}
 use Rattle.pgs_stream.specs.Segments.{placed, segments_from}
 use Rattle.pgs_stream.specs.declared.segments.PlacedSegment.{PlacedSegment}
-use Rattle.pgs_stream.proofs.SegmentLaws.{none-left, head-within, lent-head, good-on, first-left}
+use Rattle.pgs_stream.proofs.SegmentLaws.{none-left, good-on, first-left}
 use Rattle.pgs_stream.proofs.segments.SegmentsIterator.next.Goals as goal
 
 -- how many bytes the segment takes whose head was read
@@ -23,15 +23,11 @@ returns-then-self-clause-steps c =
     let none = none-left it.stream.now it.at c.if-self.true in
     (none, none)
 
-pub slice_bounds-header_at-end : goal.slice_bounds-header_at-end
-slice_bounds-header_at-end c = let it = c.args.self.now in head-within it.stream.now it.good c.if-self.false
-
 pub invariant_of-self : goal.invariant_of-self
 invariant_of-self c =
     let it = c.args.self.now in
     let s = it.stream.now in
-    let head = c.header_at-header.ensures ∙ lent-head s it.good c.if-self.false in
-    record { good = rw (c.used.ensures, its-size (drop it.at s) head) (good-on s it.good c.if-self.false) }
+    record { good = rw (c.used.ensures, its-size (drop it.at s) c.header_at-header.ensures) (good-on s it.good c.if-self.false) }
 
 -- the segment and what is left behind it
 first : (c : goal.After-self-1)
@@ -41,7 +37,7 @@ first : (c : goal.After-self-1)
 first c =
     let it = c.args.self.now in
     let l = drop it.at it.stream.now in
-    let head = c.header_at-header.ensures ∙ lent-head it.stream.now it.good c.if-self.false in
+    let head = c.header_at-header.ensures in
     rw (c.used.ensures, ap (placed it.at) head, its-size l head) (first-left it.stream.now it.good c.if-self.false)
 
 pub returns-clause-steps : goal.returns-clause-steps

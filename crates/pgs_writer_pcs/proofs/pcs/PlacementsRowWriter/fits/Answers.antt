@@ -1,7 +1,7 @@
 -- `fits` tests the cells that take one byte, then the mark by the flag.
 -- Assumes nothing.
 use Prim.Native.Nat.{ℕ, ◌<◌}
-use Rattle.pgs_writer_base.proofs.PlacementLaws.{wide-window, wide-flag, fits-cropped, fits-plain}
+use Rattle.pgs_writer_base.proofs.PlacementLaws.{fits-cropped}
 use lib.ListN.{get_or}
 use mathlib.Core.Path.{sym, ◌∙◌}
 use mir.Syntax.{w16}
@@ -17,14 +17,5 @@ cell-fits c k = search rules
 cell : (c : Start) (k : ℕ) → get_or c.args.row k 0 < 65536
 cell c k = (cell-fits c k).fits
 
-pub returns-then-row-gt-ONE_BYTE : goal.returns-then-row-gt-ONE_BYTE
-returns-then-row-gt-ONE_BYTE c = sym (wide-window c.args.row (cell (goal.at.returns-then-row-gt-ONE_BYTE c).Start) c.if-row-gt-ONE_BYTE.true)
-
-pub returns-then-row-gt-ONE_BYTE-2 : goal.returns-then-row-gt-ONE_BYTE-2
-returns-then-row-gt-ONE_BYTE-2 c = sym (wide-flag c.args.row (cell (goal.at.returns-then-row-gt-ONE_BYTE-2 c).Start) c.if-row-gt-ONE_BYTE.false c.if-row-gt-ONE_BYTE-2.true)
-
 pub returns-then-row-from : goal.returns-then-row-from
 returns-then-row-from c = sym (fits-cropped c.args.row (cell (goal.at.returns-then-row-from c).Start) c.if-row-gt-ONE_BYTE.false c.if-row-gt-ONE_BYTE-2.false (c.if-row-from.true ∙ c.from.ensures))
-
-pub returns-else-row-from : goal.returns-else-row-from
-returns-else-row-from c = sym (fits-plain c.args.row (cell (goal.at.returns-else-row-from c).Start) c.if-row-gt-ONE_BYTE.false c.if-row-gt-ONE_BYTE-2.false (rw c.from.ensures at c.if-row-from.false))
