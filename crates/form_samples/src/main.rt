@@ -3,6 +3,7 @@
 #![tactic(auto)]
 
 use pgs_base::refusal::Refusal;
+use pgs_segment::header::SegmentHeader;
 use pgs_segment_list::SegmentRecord;
 use std::io;
 
@@ -37,21 +38,22 @@ fn print_data(rt: &impl Print, body: &[u8]) -> io::Result<()> {
 }
 
 fn print_record(rt: &impl Print, r: SegmentRecord) -> io::Result<()> {
+    let header = r.header;
     println!(rt;
         "  {} {} {} {} {}",
-        r.place, r.pts, r.dts, r.segment_type, r.segment_size
+        r.place, header.pts, header.dts, header.segment_type, header.segment_size
     )
 }
 
 // What reading a stream into eight records answers, and the records: the first three and the last.
 fn print_segments(rt: &impl Print, stream: &[u8]) -> io::Result<()> {
-    let nine = SegmentRecord {
-        place: 9,
+    let header = SegmentHeader {
         pts: 9,
         dts: 9,
         segment_type: 9,
         segment_size: 9,
     };
+    let nine = SegmentRecord { place: 9, header };
     let read = pgs_segment_list::parse_eight(stream, [nine; 8]);
     match read.answer {
         Ok(n) => println!(rt; "segments: {n}")?,

@@ -1,7 +1,7 @@
 // How many pixels an object or a plane has across and down.
 ghost use Rattle.std.specs.Prelude.{◌≡◌, ◌*◌};
 
-#[derive(Clone, Copy, Debug, PartialEq, Eq)]
+#[derive(Clone, Copy, Debug, Default, PartialEq, Eq)]
 pub struct Dimensions {
     pub width: u16,
     pub height: u16,

@@ -11,8 +11,9 @@ use pgs_bitmap_store::bitmap::store_rle;
 pub fn decode_rle(data: &[u8], width: u16, height: u16, pixels: &mut [u8]) -> Result<(), Refusal>
     ensures { Decoding «data».now width height pixels.old result pixels.new }
 {
-    check_rle(data, width, height)?;
-    let need = Dimensions { width, height }.area();
+    let size = Dimensions { width, height };
+    check_rle(data, size)?;
+    let need = size.area();
     if pixels.len() < need {
         return Err(Refusal::BufferTooSmall);
     }

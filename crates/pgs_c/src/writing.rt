@@ -1,11 +1,10 @@
 // Writing: each kind of segment, and the segments of a stream.
-ghost use Rattle.pgs_c_told.specs.Told.{WriteCall};
+ghost use Rattle.pgs_c_told.specs.Told.{WriteCall, FieldsCall};
 ghost use Rattle.pgs_c_writer_lists.specs.Lists.{pcs_cells_writable};
 ghost use Rattle.pgs_c_writer.specs.Writing.{ods_cells_writable, WritesCall};
 ghost use Rattle.pgs_cells_ods.specs.OdsCells.{ods_from};
 ghost use Rattle.pgs_cells.specs.PcsCells.{pcs_from};
 ghost use Rattle.pgs_cells.specs.PdsCells.{pds_from};
-ghost use Rattle.pgs_encoding.specs.Writable.{writable};
 ghost use Rattle.pgs_writer_base.specs.Kinds.{
   pcs_segment,
   wds_segment,
@@ -37,7 +36,7 @@ pub extern "C" fn pgs_encode_wds(
     out: &mut [u8],
     written: &mut u64,
 ) -> u8
-    ensures { WriteCall (writable (wds_segment pts dts windows.now)) (wds_segment pts dts windows.now) out.old out.new written.old written.new result }
+    ensures { FieldsCall (wds_segment pts dts windows.now) out.old out.new written.old written.new result }
 {
     pgs_c_writer_lists::lists::pgs_encode_wds(pts, dts, windows, out, written)
 }
@@ -51,7 +50,7 @@ pub extern "C" fn pgs_encode_pds(
     out: &mut [u8],
     written: &mut u64,
 ) -> u8
-    ensures { WriteCall (writable (pds_segment pts dts (pds_from pds.now) entries.now)) (pds_segment pts dts (pds_from pds.now) entries.now) out.old out.new written.old written.new result }
+    ensures { FieldsCall (pds_segment pts dts (pds_from pds.now) entries.now) out.old out.new written.old written.new result }
 {
     pgs_c_writer_lists::lists::pgs_encode_pds(pts, dts, pds, entries, out, written)
 }
@@ -72,7 +71,7 @@ pub extern "C" fn pgs_encode_ods(
 
 #[unsafe(no_mangle)]
 pub extern "C" fn pgs_encode_end(pts: u32, dts: u32, out: &mut [u8], written: &mut u64) -> u8
-    ensures { WriteCall (writable (end_segment pts dts)) (end_segment pts dts) out.old out.new written.old written.new result }
+    ensures { FieldsCall (end_segment pts dts) out.old out.new written.old written.new result }
 {
     pgs_c_writer::writing::pgs_encode_end(pts, dts, out, written)
 }
@@ -86,7 +85,7 @@ pub extern "C" fn pgs_encode_other(
     out: &mut [u8],
     written: &mut u64,
 ) -> u8
-    ensures { WriteCall (writable (other_segment pts dts kind «data».now)) (other_segment pts dts kind «data».now) out.old out.new written.old written.new result }
+    ensures { FieldsCall (other_segment pts dts kind «data».now) out.old out.new written.old written.new result }
 {
     pgs_c_writer::writing::pgs_encode_other(pts, dts, kind, data, out, written)
 }

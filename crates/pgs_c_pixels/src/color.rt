@@ -5,7 +5,7 @@ ghost use Rattle.pgs_palette.specs.Palette.{applying, entry_of};
 ghost use Rattle.pgs_palette.specs.Table.{cleared, laid};
 ghost use Rattle.pgs_c_pixels.specs.Pixels.{packed, TableCall};
 
-use crate::code::code;
+use pgs_c_told::told::code;
 use pgs_color::ycbcr::{Rgb8, ycbcr709_to_rgb};
 use pgs_palette::palette::{apply, clear};
 

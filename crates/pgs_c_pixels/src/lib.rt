@@ -2,5 +2,4 @@
 #![tactic(auto)]
 
 pub mod bitmap;
-mod code;
 pub mod color;

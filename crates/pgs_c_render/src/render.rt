@@ -2,11 +2,13 @@
 ghost use Rattle.std.specs.Prelude.{◌≡◌};
 ghost use Rattle.pgs_c_render.specs.Render.{RenderCall, shown_cells};
 
+use pgs_c_told::told::stored;
 use pgs_render::render::render;
 use pgs_rendering::Shown;
 
 // What is shown, as cells: width, height, PTS.
-// Stays a function, as those of `pgs_cells`: `From` for an array of three u64 would not say which numbers they are.
+// Stays a function, as those of `pgs_cells`: neither `Shown` nor the array is a type of this crate, so that no `From` between them may stand
+// here; in the crate of `Shown` it could, and there these cells, which only C has, would be out of place.
 fn shown_cells(shown: Shown) -> [u64; 3]
     ensures { result ≡ shown_cells shown }
 {
@@ -26,11 +28,8 @@ pub fn pgs_render(
 ) -> u8
     ensures { RenderCall stream.now set scratch.old scratch.new plane.old plane.new shown.old shown.new result }
 {
-    match render(stream, set as usize, scratch, plane) {
-        Err(why) => why.number(),
-        Ok(answer) => {
-            *shown = shown_cells(answer);
-            0
-        }
-    }
+    stored(
+        render(stream, set as usize, scratch, plane).map(shown_cells),
+        shown,
+    )
 }

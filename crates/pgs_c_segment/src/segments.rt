@@ -1,4 +1,6 @@
 // Reading: the stream and the bodies.
+ghost use Rattle.std.specs.Prelude.{◌≡◌};
+ghost use Rattle.pgs_cells_ods.specs.OdsCells.{ods_cells};
 ghost use Rattle.pgs_c_segment.specs.Segments.{
   SegmentsCall,
   PcsCall,
@@ -7,7 +9,7 @@ ghost use Rattle.pgs_c_segment.specs.Segments.{
   OdsCall,
 };
 
-use pgs_c_told::told::told;
+use pgs_c_told::told::{stored, told};
 use pgs_cells::pcs::pcs_cells;
 use pgs_cells::pds::pds_cells;
 use pgs_cells_ods::ods::ods_cells;
@@ -31,16 +33,12 @@ pub fn pgs_parse_pcs(
 ) -> u8
     ensures { PcsCall body.now pcs.old pcs.new placements.old placements.new count.old count.new result }
 {
-    // Stays a match, as that of a PDS: a closure for `map` that stores the numbers was tried, and `map` does not promise that it is left
-    // uncalled where the answer is a refusal, so that the numbers stay was open. Stored before, the answer would be taken apart twice.
-    match Pcs::parse(body, placements) {
-        Err(why) => why.number(),
-        Ok((numbers, placed)) => {
-            *pcs = pcs_cells(numbers);
-            *count = placed as u64;
-            0
-        }
-    }
+    // One answer, told twice: how many, and the numbers.
+    // Stays beside `pgs_parse_pds`: one function for both would need a trait of the parse and the cells with two impls, for two bodies of three
+    // lines.
+    let answer = Pcs::parse(body, placements);
+    told(answer.map(|(_, placed)| placed), count);
+    stored(answer.map(|(numbers, _)| numbers).map(pcs_cells), pcs)
 }
 
 pub fn pgs_parse_wds(body: &[u8], windows: &mut [[u16; 5]], count: &mut u64) -> u8
@@ -52,25 +50,17 @@ pub fn pgs_parse_wds(body: &[u8], windows: &mut [[u16; 5]], count: &mut u64) -> 
 pub fn pgs_parse_pds(body: &[u8], pds: &mut [u8; 2], entries: &mut [[u8; 5]], count: &mut u64) -> u8
     ensures { PdsCall body.now pds.old pds.new entries.old entries.new count.old count.new result }
 {
-    match Pds::parse(body, entries) {
-        Err(why) => why.number(),
-        Ok((numbers, given)) => {
-            *pds = pds_cells(numbers);
-            *count = given as u64;
-            0
-        }
-    }
+    // one answer, told twice: how many, and the numbers
+    let answer = Pds::parse(body, entries);
+    told(answer.map(|(_, given)| given), count);
+    stored(answer.map(|(numbers, _)| numbers).map(pds_cells), pds)
 }
 
 pub fn pgs_parse_ods(body: &[u8], ods: &mut [u64; 9]) -> u8
     ensures { OdsCall body.now ods.old ods.new result }
 {
-    // Stays a match: it sets no count, and `told` sets one.
-    match Ods::parse(body) {
-        Err(why) => why.number(),
-        Ok((numbers, data)) => {
-            *ods = ods_cells(numbers, data);
-            0
-        }
-    }
+    let cells = |(numbers, data)|
+        ensures { result ≡ ods_cells numbers «data» }
+    { ods_cells(numbers, data) };
+    stored(Ods::parse(body).map(cells), ods)
 }

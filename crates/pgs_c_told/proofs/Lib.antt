@@ -1,1 +1,1 @@
-pub mod WriteCalls
+pub mod ToldLaws

@@ -1,4 +1,4 @@
-// What the calls of the C interface that answer with a count have in common.
+// What the calls of the C interface have in common: how they tell their caller an answer.
 #![tactic(auto)]
 
 pub mod told;

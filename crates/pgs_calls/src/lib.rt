@@ -1,2 +1,2 @@
-// What a call through the C interface answers and leaves: definitions alone, with their laws.
+// What a call through the C interface answers and leaves: definitions alone.
 #![tactic(auto)]

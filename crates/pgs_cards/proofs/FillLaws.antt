@@ -37,16 +37,8 @@ use Rattle.pgs_set.specs.declared.grouping.Grouping.TheVariants.{Outside}
 use Rattle.pgs_cards.proofs.FoldLaws.{open_lines, lines_left_lem, opened-few}
 use Rattle.pgs_cards.proofs.LineLaws.{line-length}
 use Rattle.pgs_cards.specs.Cards.{card_lines, line_of, line_length}
-use Rattle.pgs_cards.specs.Walks.{card_after, closes, no_card}
+use Rattle.pgs_cards.specs.Walks.{card_after}
 use Rattle.pgs_cards.specs.declared.card.Card.{Card}
-
-closes-end : (t : SegmentType) (b : List ℕ) → closes (numbers_of (body_of t b)) ≡ is_end t
-closes-end Pds b = refl
-closes-end Ods b = refl
-closes-end Pcs b = refl
-closes-end Wds b = refl
-closes-end End b = refl
-closes-end (Other v) b = refl
 
 -- the lines to come behind the next segment, with the card c
 abbrev behind : List ℕ → ℕ → Card → List ℕ
@@ -89,7 +81,7 @@ answer t b = outcome_of (body_verdict t b) (numbers_of (body_of t b), body_list 
 abbrev pub lines_in : List ℕ → Card → List PlacedSegment → List ℕ
 lines_in s c [] = []
 lines_in s c (x ∷ xs) =
-    pick (closes (read_body s x)) (line_of c ++ lines_in s c xs) (lines_in s (card_after c x.at x.header.pts (read_body s x)) xs)
+    pick (is_end (segment_type (drop x.at s))) (line_of c ++ lines_in s c xs) (lines_in s (card_after c x.at x.header.pts (read_body s x)) xs)
 
 module _ (s : List ℕ) where
   -- the segments from a place on: they stand there, give the lines to come, and take a byte each at least
@@ -122,7 +114,7 @@ module _ (s : List ℕ) where
           (record {
             stand = (record { step = ok; its = refl }, rest.stand);
             lines = λ c.
-                (λ j. pick (closes-end (segment_type (drop at s)) (body_at (drop at s)) j) (line_of c ++ rest.lines c j) (rest.lines (grown s at c) j))
+                (λ j. pick (is_end (segment_type (drop at s))) (line_of c ++ rest.lines c j) (rest.lines (grown s at c) j))
                 ∙ sym (lines-here s at c ok);
             few = λ q. omega (arith, rest.few (within-here s at ok));
           })
@@ -134,7 +126,7 @@ pub record Writing (s start now : List ℕ) (c : Card) (xs : List PlacedSegment)
   pub front : Front start (card_lines s) now (lines_in s c xs) k
 
 module _ (s : List ℕ) where
-  pub writing : (start : List ℕ) {c : Card} {xs : List PlacedSegment} → sets_verdict s ≡ accepted → c ≡ no_card → xs ≡ segments_from s 0
+  pub writing : (start : List ℕ) {c : Card} {xs : List PlacedSegment} → sets_verdict s ≡ accepted → c.objects ≡ 0 → xs ≡ segments_from s 0
       → Writing s start start c xs 0
   unfolding sets_of
   writing start {c} e q r =
@@ -144,7 +136,7 @@ module _ (s : List ℕ) where
       rw r
       (record {
         stand = here.stand;
-        few = omega (arith, here.few (omega arith), ap (λ (d : Card). d.objects) q);
+        few = omega (arith, here.few (omega arith), q);
         front = rw all (begins start (card_lines s));
       })
 
@@ -170,17 +162,17 @@ module _ (s : List ℕ) where
           let l = drop x.at s in
           not-both (accepted-body l (first-accepts (segment_verdict l) _ its.step)) (turned_down (body_verdict (segment_type l) (body_at l)) _ (read e))
 
-      module _ {b : SegmentBody} {p : BodyList} (e : ◌≡◌ {A = Outcome (SegmentBody × BodyList)} (gives (b, p)) (answer t (take (x.end - (x.at + 13)) (drop (x.at + 13) s)))) where
-        body : b ≡ read_body s x
-        body =
-            let l = drop x.at s in
-            ap (λ (y : SegmentBody × BodyList). y.0) (gave-value (body_verdict (segment_type l) (body_at l)) _ (read e))
+      module _ {a : Bool} (f : a ≡ is_end t) where
+        closed : is_end (segment_type (drop x.at s)) ≡ a
+        closed = sym (f ∙ ap is_end kind)
 
-        module _ {a : Bool} (f : a ≡ closes b) where
-          closed : closes (read_body s x) ≡ a
-          closed = sym (f ∙ ap closes body)
+        -- no END: the card goes on
+        module _ {b : SegmentBody} {p : BodyList} (e : ◌≡◌ {A = Outcome (SegmentBody × BodyList)} (gives (b, p)) (answer t (take (x.end - (x.at + 13)) (drop (x.at + 13) s)))) where
+          body : b ≡ read_body s x
+          body =
+              let l = drop x.at s in
+              ap (λ (y : SegmentBody × BodyList). y.0) (gave-value (body_verdict (segment_type l) (body_at l)) _ (read e))
 
-          -- no END: the card goes on
           pub goes_on : {d : Card} → a ≡ false → d ≡ card_after c x.at x.header.pts b → Writing s start now d xs k
           goes_on {d} n r =
               let l = drop x.at s in
@@ -191,30 +183,30 @@ module _ (s : List ℕ) where
                 front = rw (pick_second _ _ (closed ∙ n)) at w.front;
               })
 
-          -- an END: the line is written
-          module _ (n : a ≡ true) (room : length (card_lines s) ≤ length start) where
-            front : Front start (card_lines s) now (line_of c ++ lines_in s c xs) k
-            front = rw (pick_first _ _ (closed ∙ n)) at w.front
+        -- an END: the line is written
+        module _ (n : a ≡ true) (room : length (card_lines s) ≤ length start) where
+          front : Front start (card_lines s) now (line_of c ++ lines_in s c xs) k
+          front = rw (pick_first _ _ (closed ∙ n)) at w.front
 
-            pub line-fits : k + line_length ≤ length now
-            line-fits =
-                omega (
-                  arith,
-                  w.front.same,
-                  ap length front.done,
-                  length-append (take k now) (line_of c ++ lines_in s c xs),
-                  length-take-le k now w.front.within,
-                  length-append (line_of c) (lines_in s c xs),
-                  line-length c,
-                )
+          pub line-fits : k + line_length ≤ length now
+          line-fits =
+              omega (
+                arith,
+                w.front.same,
+                ap length front.done,
+                length-append (take k now) (line_of c ++ lines_in s c xs),
+                length-take-le k now w.front.within,
+                length-append (line_of c) (lines_in s c xs),
+                line-length c,
+              )
 
-            pub line-put : {ys : List ℕ} → ys ≡ line_of c
-                → Writing s start (take k now ++ (ys ++ drop (k + line_length - k) (drop k now))) c xs (k + line_length)
-            line-put {ys} r =
-                let m : k + line_length - k ≡ line_length = omega arith in
-                rw (r, m)
-                (record {
-                  stand = w.stand.1;
-                  few = omega (arith, w.few);
-                  front = part-back (line_of c) front (sym (line-length c)) line-fits;
-                })
+          pub line-put : {ys : List ℕ} → ys ≡ line_of c
+              → Writing s start (take k now ++ (ys ++ drop (k + line_length - k) (drop k now))) c xs (k + line_length)
+          line-put {ys} r =
+              let m : k + line_length - k ≡ line_length = omega arith in
+              rw (r, m)
+              (record {
+                stand = w.stand.1;
+                few = omega (arith, w.few);
+                front = part-back (line_of c) front (sym (line-length c)) line-fits;
+              })

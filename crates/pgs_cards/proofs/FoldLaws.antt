@@ -61,35 +61,10 @@ adding-first : (at pts : ℕ) (p : declared-pcs.Pcs) (n : ℕ) → adding (card_
 adding-first at pts p n = let same : 0 + n ≡ n = omega arith in λ j. card_with at pts p (same j)
 
 adding-none : (c : Card) → adding c 0 ≡ c
-adding-none c =
-    λ j.
-    record {
-      place = c.place;
-      pts = c.pts;
-      composition_number = c.composition_number;
-      composition_state = c.composition_state;
-      palette_id = c.palette_id;
-      objects = same j;
-      width = c.width;
-      height = c.height;
-    }
-  where
-    same : c.objects + 0 ≡ c.objects
-    same = omega arith
+adding-none c = let same : c.objects + 0 ≡ c.objects = omega arith in ap (card_with c.place c.pts c.pcs) same
 
 adding-twice : (c : Card) (a b : ℕ) → adding (adding c a) b ≡ adding c (a + b)
-adding-twice c a b =
-    λ j.
-    record {
-      place = c.place;
-      pts = c.pts;
-      composition_number = c.composition_number;
-      composition_state = c.composition_state;
-      palette_id = c.palette_id;
-      objects = add_assoc c.objects a b j;
-      width = c.width;
-      height = c.height;
-    }
+adding-twice c a b = ap (card_with c.place c.pts c.pcs) (add_assoc c.objects a b)
 
 -- one more segment, of kind t, before segments of which it is known already
 module _ (c : Card) (at : ℕ) (x : List ℕ) (xs : List (List ℕ)) where

@@ -30,24 +30,24 @@ module _ (w n : ℕ) {start whole now rest : List ℕ} {k : ℕ} (f : Front star
 pub line-written : (c : Card) (l : List ℕ) → length l ≡ line_length → {l1 l2 l3 l4 l5 l6 l7 l8 : List ℕ}
     → l1 ≡ take 0 l ++ (hex 8 c.place ++ drop 8 l)
     → l2 ≡ take 8 l1 ++ (hex 8 c.pts ++ drop 16 l1)
-    → l3 ≡ take 16 l2 ++ (hex 4 c.composition_number ++ drop 20 l2)
-    → l4 ≡ take 20 l3 ++ (hex 2 c.composition_state ++ drop 22 l3)
-    → l5 ≡ take 22 l4 ++ (hex 2 c.palette_id ++ drop 24 l4)
+    → l3 ≡ take 16 l2 ++ (hex 4 c.pcs.composition_number ++ drop 20 l2)
+    → l4 ≡ take 20 l3 ++ (hex 2 c.pcs.composition_state ++ drop 22 l3)
+    → l5 ≡ take 22 l4 ++ (hex 2 c.pcs.palette_id ++ drop 24 l4)
     → l6 ≡ take 24 l5 ++ (hex 2 c.objects ++ drop 26 l5)
-    → l7 ≡ take 26 l6 ++ (hex 4 c.width ++ drop 30 l6)
-    → l8 ≡ take 30 l7 ++ (hex 4 c.height ++ drop 34 l7)
+    → l7 ≡ take 26 l6 ++ (hex 4 c.pcs.width ++ drop 30 l6)
+    → l8 ≡ take 30 l7 ++ (hex 4 c.pcs.height ++ drop 34 l7)
     → set l8 34 10 ≡ line_of c
 unfolding line_of
 line-written c l e e1 e2 e3 e4 e5 e6 e7 e8 =
     let f0 = begins l (line_of c) in
     let f1 = puts-on 8 c.place f0 (omega arith) e1 in
     let f2 = puts-on 8 c.pts f1 (omega (arith, f1.same)) e2 in
-    let f3 = puts-on 4 c.composition_number f2 (omega (arith, f2.same)) e3 in
-    let f4 = puts-on 2 c.composition_state f3 (omega (arith, f3.same)) e4 in
-    let f5 = puts-on 2 c.palette_id f4 (omega (arith, f4.same)) e5 in
+    let f3 = puts-on 4 c.pcs.composition_number f2 (omega (arith, f2.same)) e3 in
+    let f4 = puts-on 2 c.pcs.composition_state f3 (omega (arith, f3.same)) e4 in
+    let f5 = puts-on 2 c.pcs.palette_id f4 (omega (arith, f4.same)) e5 in
     let f6 = puts-on 2 c.objects f5 (omega (arith, f5.same)) e6 in
-    let f7 = puts-on 4 c.width f6 (omega (arith, f6.same)) e7 in
-    let f8 = puts-on 4 c.height f7 (omega (arith, f7.same)) e8 in
+    let f7 = puts-on 4 c.pcs.width f6 (omega (arith, f6.same)) e7 in
+    let f8 = puts-on 4 c.pcs.height f7 (omega (arith, f7.same)) e8 in
     filled (stored 10 f8 (omega (arith, f8.same)))
     ∙ ap (λ (r : List ℕ). line_of c ++ r) (drop_of_length-le l {i = length (line_of c)} (omega (arith, line-length c)))
     ∙ append-nil (line_of c)

@@ -1,5 +1,5 @@
 -- What the calls that write cards answer, and what is printed. Assumes nothing.
-use mathlib.Core.Path.{◌≡◌, refl, sym, ap, ◌∙◌}
+use mathlib.Core.Path.{◌≡◌, refl, sym}
 use mathlib.Core.Bool.{Bool, true, false}
 use mathlib.Core.List.{List, [], ◌∷◌, ◌++◌}
 use Prim.Native.Nat.{ℕ, ◌+◌, ◌/◌, ◌%◌, ◌≤◌, ◌<◌}
@@ -7,36 +7,29 @@ use native.Mathlib.Omega.{arith}
 use borrow.Author.Tests.{leb-true, le-leb, lt-leb}
 use lib.ListN.{length}
 use lib.Dec.{leb, ltb}
-use Rattle.pgs_base.specs.Outcome.{Verdict, accepted, refused, Outcome, gives, refuses, outcome_of, Delivered, pick}
-use Rattle.pgs_base.proofs.Outcomes.{gave, turned_down, first-accepts}
+use Rattle.pgs_base.specs.Outcome.{Verdict, accepted, refused, Outcome, Delivered, pick}
+use Rattle.pgs_base.proofs.Outcomes.{first-accepts}
 use Rattle.pgs_reassembly.specs.Objects.{all_objects_verdict}
-use Rattle.pgs_set.specs.Sets.{set_count, sets_verdict}
+use Rattle.pgs_set.specs.Sets.{sets_verdict}
 use Rattle.pgs_cards.proofs.LineLaws.{card-lines-length}
 use Rattle.pgs_cards.proofs.RoomLaws.{sets-room}
 use Rattle.pgs_cards.specs.Cards.{card_lines}
 use Rattle.pgs_cards.specs.Reports.{input_limit, printed, refusal_line, report_of, too_long}
 
--- what testing the objects of a stream answered
+-- what is printed
 module _ (s : List ℕ) where
-  module _ {n : ℕ} (e : gives n ≡ outcome_of (all_objects_verdict s) (set_count s)) where
-    pub tested : all_objects_verdict s ≡ accepted
-    tested = gave (all_objects_verdict s) (set_count s) e
-
-  -- what is printed
   pub says-too-long : input_limit < length s → too_long ≡ report_of s
   unfolding report_of
   says-too-long h = simp (lt-leb (length s) input_limit h)
 
   module _ (h : length s ≤ input_limit) where
-    pub says-refusal : {k n : ℕ} → refuses k ≡ outcome_of (all_objects_verdict s) (set_count s) → n ≡ k → refusal_line n ≡ report_of s
+    pub says-refusal : {k : ℕ} → all_objects_verdict s ≡ refused k → refusal_line k ≡ report_of s
     unfolding report_of
-    says-refusal e q =
-        ap refusal_line q
-        ∙ (λ j. pick (sym (le-leb (length s) input_limit h) j) (printed (sym (turned_down (all_objects_verdict s) (set_count s) e) j) (card_lines s)) too_long)
+    says-refusal e = λ j. pick (sym (le-leb (length s) input_limit h) j) (printed (sym e j) (card_lines s)) too_long
 
-    pub says-cards : {n : ℕ} → gives n ≡ outcome_of (all_objects_verdict s) (set_count s) → card_lines s ≡ report_of s
+    pub says-cards : all_objects_verdict s ≡ accepted → card_lines s ≡ report_of s
     unfolding report_of
-    says-cards e = λ j. pick (sym (le-leb (length s) input_limit h) j) (printed (sym (tested e) j) (card_lines s)) too_long
+    says-cards e = λ j. pick (sym (le-leb (length s) input_limit h) j) (printed (sym e j) (card_lines s)) too_long
 
 -- a text that was written, by another name
 pub text-is : {new text before after : List ℕ} {o : Outcome ℕ} → new ≡ text → Delivered accepted (length new) new before after o

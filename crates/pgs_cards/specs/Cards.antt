@@ -13,17 +13,7 @@ use Rattle.pgs_cards.specs.declared.card.Card.{Card}
 
 -- the card of n objects, by the numbers of the PCS
 abbrev pub card_with : ℕ → ℕ → Pcs → ℕ → Card
-card_with place pts p n =
-    record {
-      place = place;
-      pts = pts;
-      composition_number = p.composition_number;
-      composition_state = p.composition_state;
-      palette_id = p.palette_id;
-      objects = n;
-      width = p.width;
-      height = p.height;
-    }
+card_with place pts p n = record { place = place; pts = pts; pcs = p; objects = n }
 
 -- the card of a set
 abbrev pub card_of : DisplaySet → Card
@@ -43,9 +33,9 @@ unfoldable pub line_of : Card → List ℕ
 line_of c =
     hex 8 c.place
     ++ (hex 8 c.pts
-    ++ (hex 4 c.composition_number
-    ++ (hex 2 c.composition_state
-    ++ (hex 2 c.palette_id ++ (hex 2 c.objects ++ (hex 4 c.width ++ (hex 4 c.height ++ (10 ∷ []))))))))
+    ++ (hex 4 c.pcs.composition_number
+    ++ (hex 2 c.pcs.composition_state
+    ++ (hex 2 c.pcs.palette_id ++ (hex 2 c.objects ++ (hex 4 c.pcs.width ++ (hex 4 c.pcs.height ++ (10 ∷ []))))))))
 
 abbrev pub line_length : ℕ
 line_length = 35

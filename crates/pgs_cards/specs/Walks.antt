@@ -1,6 +1,6 @@
 -- The card of the set that a walk over the segments is in. Private contracts cite these; those of public functions cite `Cards` and
 -- `Reports`.
-use Rattle.std.specs.Prelude.{ℕ, ◌+◌, Bool, true, false}
+use Rattle.std.specs.Prelude.{ℕ, ◌+◌, Bool}
 use Rattle.pgs_views.specs.Fragments.{fragment_of, is_first}
 use Rattle.pgs_base.specs.Outcome.{pick}
 use Rattle.pgs_ods.specs.declared.ods.Ods.{Ods}
@@ -9,32 +9,9 @@ use Rattle.pgs_segment.specs.declared.segment.SegmentBody.TheVariants as numbers
 use Rattle.pgs_cards.specs.Cards.{card_with}
 use Rattle.pgs_cards.specs.declared.card.Card.{Card}
 
-abbrev pub no_card : Card
-no_card =
-    record {
-      place = 0;
-      pts = 0;
-      composition_number = 0;
-      composition_state = 0;
-      palette_id = 0;
-      objects = 0;
-      width = 0;
-      height = 0;
-    }
-
 -- a card with n objects more
 abbrev pub adding : Card → ℕ → Card
-adding c n =
-    record {
-      place = c.place;
-      pts = c.pts;
-      composition_number = c.composition_number;
-      composition_state = c.composition_state;
-      palette_id = c.palette_id;
-      objects = c.objects + n;
-      width = c.width;
-      height = c.height;
-    }
+adding c n = card_with c.place c.pts c.pcs (c.objects + n)
 
 -- whether a fragment opens an object, and how many it opens
 abbrev pub opens : Ods → Bool
@@ -51,12 +28,3 @@ card_after c at pts numbers.Wds = c
 card_after c at pts (numbers.Pds p) = c
 card_after c at pts numbers.End = c
 card_after c at pts (numbers.Other v) = c
-
--- whether a segment is an END
-abbrev pub closes : SegmentBody → Bool
-closes numbers.End = true
-closes (numbers.Pcs p) = false
-closes (numbers.Ods o) = false
-closes numbers.Wds = false
-closes (numbers.Pds p) = false
-closes (numbers.Other v) = false

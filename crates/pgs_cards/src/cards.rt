@@ -3,10 +3,10 @@ ghost use Rattle.std.specs.Prelude.{◌≡◌, ◌≤◌, length};
 ghost use Rattle.pgs_base.specs.Outcome.{accepted, outcome, laid, Delivered};
 ghost use Rattle.pgs_cards.specs.Cards.{card_lines, cards_verdict};
 
-use crate::card::{Card, is_end};
+use crate::card::Card;
 use crate::line::{LINE, put_line};
 use pgs_base::refusal::Refusal;
-use pgs_object::object::check_objects;
+use pgs_object::object::read_checked_sets;
 use pgs_segment::segment::SegmentBody;
 use pgs_set::display_sets::DisplaySets;
 use pgs_stream::segments::Segments;
@@ -25,15 +25,15 @@ fn fill_lines(sets: DisplaySets<'_>, out: &mut [u8])
     let mut k: usize = 0;
     for segment in (Segments { stream: s, at: 0 }) {
         let kind = segment.header.kind();
-        let bytes = segment.body(s);
-        // the stream was accepted, so its bodies are
-        let (body, _) = SegmentBody::parse(kind, bytes).unwrap();
-        if is_end(body) {
+        if kind.is_end() {
             let end = k + LINE;
             put_line(&mut out[k..end], card);
             k = end;
         } else {
-            card = card.after(segment.at, segment.header.pts, body);
+            let bytes = segment.body(s);
+            // the stream was accepted, so its bodies are
+            let (body, _) = SegmentBody::parse(kind, bytes).unwrap();
+            card.take(segment.at, segment.header.pts, body);
         }
     }
 }
@@ -55,9 +55,9 @@ pub(crate) fn put_lines(sets: DisplaySets<'_>, out: &mut [u8]) -> Result<usize, 
 pub fn write_cards(s: &[u8], out: &mut [u8]) -> Result<usize, Refusal>
     ensures { Delivered (cards_verdict s.now) (length (card_lines s.now)) (card_lines s.now) out.old out.new (outcome result) }
 {
-    let count = check_objects(s)?;
+    let sets = read_checked_sets(s)?;
     if PLACE_LIMIT < s.len() {
         return Err(Refusal::NotEncodable);
     }
-    put_lines(DisplaySets { stream: s, count }, out)
+    put_lines(sets, out)
 }

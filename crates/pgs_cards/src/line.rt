@@ -7,18 +7,17 @@ use crate::card::Card;
 // How many bytes a line has, its line feed included.
 pub(crate) const LINE: usize = 35;
 
-// Stays by hand: `char::from_digit` gives lower-case letters, and a `char`.
+// The upper-case hexadecimal digit.
 fn digit(n: u64) -> u8
     requires { n < 16 }
     ensures { result ≡ digit_of n }
 {
-    if n < 10 {
-        return b'0' + n as u8;
-    }
-    b'A' - 10 + n as u8
+    let digit = char::from_digit(n as u32, 16).unwrap();
+    digit.to_ascii_uppercase() as u8
 }
 
 // Fills `out` with the last digits of a number.
+// Stays by hand: of `write!` with `{:08X}`, std says what it writes where it answers `Ok`, and nowhere that it does so.
 // Stays by index: of a slice that is written through `iter_mut().rev()`, std does not say what it then holds.
 fn fill_hex(out: &mut [u8], n: u64)
     ensures { out.new ≡ hex (length out.old) n }
@@ -47,11 +46,11 @@ pub(crate) fn put_line(out: &mut [u8], card: Card)
 {
     put_hex(out, 0, 8, card.place as u64);
     put_hex(out, 8, 8, u64::from(card.pts));
-    put_hex(out, 16, 4, u64::from(card.composition_number));
-    put_hex(out, 20, 2, u64::from(card.composition_state));
-    put_hex(out, 22, 2, u64::from(card.palette_id));
+    put_hex(out, 16, 4, u64::from(card.pcs.composition_number));
+    put_hex(out, 20, 2, u64::from(card.pcs.composition_state));
+    put_hex(out, 22, 2, u64::from(card.pcs.palette_id));
     put_hex(out, 24, 2, card.objects as u64);
-    put_hex(out, 26, 4, u64::from(card.width));
-    put_hex(out, 30, 4, u64::from(card.height));
+    put_hex(out, 26, 4, u64::from(card.pcs.width));
+    put_hex(out, 30, 4, u64::from(card.pcs.height));
     out[34] = b'\n';
 }

@@ -1,12 +1,12 @@
 // What setcards prints for an input (01, 'Bench samples').
 ghost use Rattle.std.specs.Prelude.{length};
 ghost use Rattle.pgs_base.specs.Outcome.{accepted, outcome, Delivered};
+ghost use Rattle.pgs_base.specs.Refusals.{number_of};
 ghost use Rattle.pgs_cards.specs.Reports.{refusal_line, report_of};
 
 use crate::cards::put_lines;
 use pgs_base::refusal::Refusal;
-use pgs_object::object::check_objects;
-use pgs_set::display_sets::DisplaySets;
+use pgs_object::object::read_checked_sets;
 
 // The longest input that is read.
 pub const INPUT_LIMIT: usize = 65536;
@@ -23,10 +23,11 @@ fn put_text(text: &[u8], out: &mut [u8]) -> Result<usize, Refusal>
 }
 
 // Writes the line of a refusal.
-// Stays by hand: the text is stored among lent bytes, and `Display` writes to a text of its own.
-fn put_refusal(n: u8, out: &mut [u8]) -> Result<usize, Refusal>
-    ensures { Delivered accepted (length (refusal_line n)) (refusal_line n) out.old out.new (outcome result) }
+// Stays by hand: of `write!` to lent bytes, std says what it writes where it answers `Ok`, and nowhere that it does so.
+fn put_refusal(why: Refusal, out: &mut [u8]) -> Result<usize, Refusal>
+    ensures { Delivered accepted (length (refusal_line (number_of why))) (refusal_line (number_of why)) out.old out.new (outcome result) }
 {
+    let n = why.number();
     let mut text = *b"REFUSED 00\n";
     if n < 10 {
         text[8] = b'0' + n;
@@ -45,8 +46,8 @@ pub fn write_report(s: &[u8], out: &mut [u8]) -> Result<usize, Refusal>
     if INPUT_LIMIT < s.len() {
         return put_text(b"TOO LONG\n", out);
     }
-    match check_objects(s) {
-        Ok(count) => put_lines(DisplaySets { stream: s, count }, out),
-        Err(why) => put_refusal(why.number(), out),
+    match read_checked_sets(s) {
+        Ok(sets) => put_lines(sets, out),
+        Err(why) => put_refusal(why, out),
     }
 }

@@ -6,8 +6,8 @@ ghost use Rattle.pgs_cells.specs.PcsCells.{pcs_cells, pcs_from, pcs_cells_fit};
 use pgs_base::refusal::Refusal;
 use pgs_pcs::pcs::Pcs;
 
-// Stays a function, as `pcs_from`, `pds_cells` and `pds_from`: the cells are this crate's record of the C interface, and `From` for an array of seven u16 would
-// not say which numbers they are.
+// Stays a function, as `pcs_from`, `pds_cells` and `pds_from`: neither the record nor the array is a type of this crate, so that no `From`
+// between them may stand here, as in Rust; in the record's crate it could, and there these cells, which only C has, would be out of place.
 pub fn pcs_cells(p: Pcs) -> [u16; 7]
     ensures { result ≡ pcs_cells p }
 {
@@ -26,13 +26,22 @@ pub fn pcs_cells(p: Pcs) -> [u16; 7]
 pub fn pcs_from(cells: [u16; 7]) -> Result<Pcs, Refusal>
     ensures { outcome result ≡ outcome_of (unless 35 (pcs_cells_fit cells)) (pcs_from cells) }
 {
+    let [
+        width,
+        height,
+        frame_rate,
+        composition_number,
+        state,
+        update,
+        palette,
+    ] = cells;
     Ok(Pcs {
-        width: cells[0],
-        height: cells[1],
-        frame_rate: u8::try_from(cells[2])?,
-        composition_number: cells[3],
-        composition_state: u8::try_from(cells[4])?,
-        palette_update_flag: u8::try_from(cells[5])?,
-        palette_id: u8::try_from(cells[6])?,
+        width,
+        height,
+        frame_rate: u8::try_from(frame_rate)?,
+        composition_number,
+        composition_state: u8::try_from(state)?,
+        palette_update_flag: u8::try_from(update)?,
+        palette_id: u8::try_from(palette)?,
     })
 }

@@ -13,8 +13,9 @@ pub fn pds_cells(p: Pds) -> [u8; 2]
 pub fn pds_from(cells: [u8; 2]) -> Pds
     ensures { result ≡ pds_from cells }
 {
+    let [id, version] = cells;
     Pds {
-        palette_id: cells[0],
-        palette_version_number: cells[1],
+        palette_id: id,
+        palette_version_number: version,
     }
 }

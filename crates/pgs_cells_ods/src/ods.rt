@@ -6,6 +6,7 @@ ghost use Rattle.pgs_cells_ods.specs.OdsCells.{
   ods_cells,
   ods_from,
   ods_cells_fit,
+  dimension_cells,
   dimensions_from,
   dimensions_fit,
 };
@@ -15,32 +16,33 @@ use pgs_base::refusal::Refusal;
 use pgs_ods::ods::Ods;
 use pgs_records::BodyList;
 
-// Stays a function, as `ods_from`: the cells are this crate's record of the C interface, and `From` for an array of nine u64 would not say
-// which numbers they are.
+// The mark 'present', and the two dimensions, 0 where they are absent.
+fn dimension_cells(dimensions: Option<Dimensions>) -> [u64; 3]
+    ensures { result ≡ dimension_cells dimensions }
+{
+    match dimensions {
+        None => [0; 3],
+        Some(size) => [1, u64::from(size.width), u64::from(size.height)],
+    }
+}
+
+// Stays a function, as `ods_from`: neither the record nor the array is a type of this crate, so that no `From` between them may stand here,
+// as in Rust; in the record's crate it could, and there these cells, which only C has, would be out of place.
 pub fn ods_cells(o: Ods, data: BodyList) -> [u64; 9]
     ensures { result ≡ ods_cells o «data» }
 {
-    let id = u64::from(o.object_id);
-    let version = u64::from(o.object_version_number);
-    let flag = u64::from(o.last_in_sequence_flag);
-    let declared = u64::from(o.object_data_length);
-    let start = data.start as u64;
-    let len = data.len as u64;
-    let dimensions = o.dimensions;
-    match dimensions {
-        None => [id, version, flag, declared, 0, 0, 0, start, len],
-        Some(size) => [
-            id,
-            version,
-            flag,
-            declared,
-            1,
-            u64::from(size.width),
-            u64::from(size.height),
-            start,
-            len,
-        ],
-    }
+    let [present, width, height] = dimension_cells(o.dimensions);
+    [
+        u64::from(o.object_id),
+        u64::from(o.object_version_number),
+        u64::from(o.last_in_sequence_flag),
+        u64::from(o.object_data_length),
+        present,
+        width,
+        height,
+        data.start as u64,
+        data.len as u64,
+    ]
 }
 
 // The dimensions by the mark 'present'; where it is 0 the other two cells are ignored.
@@ -61,11 +63,12 @@ fn dimensions_from(mark: u32, width: u32, height: u32) -> Result<Option<Dimensio
 pub fn ods_from(cells: [u32; 7]) -> Result<Ods, Refusal>
     ensures { outcome result ≡ outcome_of (unless 35 (ods_cells_fit cells)) (ods_from cells) }
 {
+    let [id, version, flag, declared, present, width, height] = cells;
     Ok(Ods {
-        object_id: u16::try_from(cells[0])?,
-        object_version_number: u8::try_from(cells[1])?,
-        last_in_sequence_flag: u8::try_from(cells[2])?,
-        object_data_length: cells[3],
-        dimensions: dimensions_from(cells[4], cells[5], cells[6])?,
+        object_id: u16::try_from(id)?,
+        object_version_number: u8::try_from(version)?,
+        last_in_sequence_flag: u8::try_from(flag)?,
+        object_data_length: declared,
+        dimensions: dimensions_from(present, width, height)?,
     })
 }

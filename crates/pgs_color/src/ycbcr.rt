@@ -72,6 +72,7 @@ impl ChannelSums {
 }
 
 // The colour of Y, Cb and Cr.
+// Stays by the three, as `channel_sums`: its parameters are the published Rust's, which C's call has too.
 pub fn ycbcr709_to_rgb(y: u8, cb: u8, cr: u8) -> Rgb8
     ensures { result ≡ rgb_of y cb cr }
 {

@@ -6,6 +6,8 @@ ghost use Rattle.pgs_cursor.specs.Cursor.{taken, taken_at};
 use pgs_base::number::number_at;
 use pgs_base::refusal::Refusal;
 
+// Stays beside `BodyReader` of pgs_body_reader, which holds one: what a read promises is proved here, once, of numbers and a list, and the
+// reader adds only that it keeps its body.
 #[derive(Clone, Copy, Debug, Default, PartialEq, Eq)]
 pub struct BodyCursor {
     pub pos: usize,

@@ -38,6 +38,8 @@ pub fn fragment_data(body: &[u8]) -> &[u8]
 {
     let mut reader = BodyReader::new(body);
     // Only the place after the reads counts.
+    // Stays beside the same reads of `fragment_head`: one function for both would be lent the reader, and promise four things of it, its
+    // body, the fields from its position, what is left and where it then stands, to spare these four lines.
     let _ = reader.u16();
     let _ = reader.u8();
     let _ = reader.u8();

@@ -7,7 +7,6 @@ ghost use Rattle.pgs_stream.specs.Stream.{step_verdict};
 ghost use Rattle.pgs_reassembly.specs.Objects.{
   chains_of,
   first_verdict,
-  is_ods,
   next_verdict,
   object_limit,
   verdict_after,
@@ -16,8 +15,8 @@ ghost use Rattle.pgs_reassembly.specs.Tables.{
   chain_row,
   extended,
   fragment_read,
-  fragments_left,
   new_row,
+  open_fragments,
   row_with,
   rows_after,
   state_in,
@@ -33,17 +32,7 @@ use pgs_reassembly::{ChainRow, FragmentNumbers};
 use pgs_segment::header::SegmentHeader;
 use pgs_set::open_set::OpenSet;
 use pgs_stream::segments::PlacedSegment;
-use pgs_views::segment_type::SegmentType;
 use std::marker::Model;
-
-// Whether a segment is a fragment of an object.
-// Stays a function: `matches!` in the caller, or a derived `==`, would leave the six kinds to the caller's proof; here the contract says
-// `is_ods`.
-fn is_ods(kind: SegmentType) -> bool
-    ensures { result ≡ is_ods kind }
-{
-    matches!(kind, SegmentType::Ods)
-}
 
 // The fragment in a segment of an accepted stream, if it is an ODS. In line: a call would copy the numbers to its caller, for each segment.
 #[inline]
@@ -52,7 +41,7 @@ pub(crate) fn read_fragment(s: &[u8], segment: PlacedSegment) -> Option<Fragment
     requires stands { segment ≡ placed segment.at (header_fields (drop segment.at s.now)) }
     ensures { result ≡ fragment_read s.now segment }
 {
-    if !is_ods(segment.header.kind()) {
+    if !segment.header.kind().is_ods() {
         return None;
     }
     // the segment was accepted, so its body is
@@ -117,50 +106,46 @@ impl ChainTable {
         ensures { Leaves (first_verdict object_limit (length self.old) (state_in f.ods.object_id self.old)) (self.old ++ (new_row f ∷ []))
             self.new (verdict_of result) }
     {
-        match self.find(f.ods.object_id) {
-            Some(i) => {
-                if self.rows[i].closed {
-                    return Err(Refusal::DuplicateObject);
-                }
-                Err(Refusal::FirstFragmentWhileOpen)
+        if let Some(i) = self.find(f.ods.object_id) {
+            if self.rows[i].closed {
+                return Err(Refusal::DuplicateObject);
             }
-            None => {
-                if self.count == OBJECT_LIMIT {
-                    return Err(Refusal::TooManyObjects);
-                }
-                self.rows[self.count] = ChainRow {
-                    first: f,
-                    closed: f.ods.is_last(),
-                    copied: false,
-                    len: f.len,
-                };
-                self.count += 1;
-                Ok(())
-            }
+            return Err(Refusal::FirstFragmentWhileOpen);
         }
+        if self.count == OBJECT_LIMIT {
+            return Err(Refusal::TooManyObjects);
+        }
+        self.rows[self.count] = ChainRow {
+            first: f,
+            closed: f.ods.is_last(),
+            copied: false,
+            len: f.len,
+        };
+        self.count += 1;
+        Ok(())
     }
 
     // A continuation extends the chain of its id, if it is open.
+    // Stays a bound in contracts, here and in `take`, `joined_length` and `list_records`: as an invariant of the table it would not bound the
+    // next sum, nor a slice of rows.
     fn extend(&mut self, f: FragmentNumbers) -> Result<(), Refusal>
         requires { total self.old + f.len < 2 ^ 64 }
         ensures { Leaves (next_verdict (state_in f.ods.object_id self.old)) (extended f self.old) self.new (verdict_of result) }
     {
-        match self.find(f.ods.object_id) {
-            None => Err(Refusal::FragmentWithoutFirst),
-            Some(i) => {
-                let row = self.rows[i];
-                if row.closed {
-                    return Err(Refusal::FragmentAfterLast);
-                }
-                self.rows[i] = ChainRow {
-                    closed: f.ods.is_last(),
-                    copied: true,
-                    len: row.len + f.len,
-                    ..row
-                };
-                Ok(())
-            }
+        let i = self
+            .find(f.ods.object_id)
+            .ok_or(Refusal::FragmentWithoutFirst)?;
+        let row = self.rows[i];
+        if row.closed {
+            return Err(Refusal::FragmentAfterLast);
         }
+        self.rows[i] = ChainRow {
+            closed: f.ods.is_last(),
+            copied: true,
+            len: row.len + f.len,
+            ..row
+        };
+        Ok(())
     }
 
     // Takes one more fragment of the set.
@@ -174,19 +159,21 @@ impl ChainTable {
             self.extend(f)
         }
     }
-}
 
-// Finds the chains of an open set, in place of those that the table held: one table serves all sets of a stream.
-pub(crate) fn find_chains(set: OpenSet<'_>, table: &mut ChainTable) -> Result<(), Refusal>
-    ensures chains { let fragments = fragments_left set.entry.stream.now set.entry.from in
-        Leaves (verdict_after object_limit [] fragments) (map chain_row (chains_of fragments)) table.new (verdict_of result) }
-    ensures small { verdict_of result ≡ accepted → total table.new ≤ length set.entry.stream.now }
-{
-    table.count = 0;
-    for segment in set.segments() {
-        if let Some(f) = read_fragment(set.stream, segment) {
-            table.take(f)?;
+    // Finds the chains of an open set, in place of those that the table held: one table serves all sets of a stream.
+    // Stays a loop that reads each segment, as in `join_chain`: an iterator of fragments would have a loop in its `next` and laws of its own,
+    // for two callers.
+    pub(crate) fn find_chains(&mut self, set: OpenSet<'_>) -> Result<(), Refusal>
+        ensures chains { Leaves (verdict_after object_limit [] (open_fragments set.entry)) (map chain_row (chains_of (open_fragments set.entry)))
+            self.new (verdict_of result) }
+        ensures small { verdict_of result ≡ accepted → total self.new ≤ length set.entry.stream.now }
+    {
+        self.count = 0;
+        for segment in set.segments() {
+            if let Some(f) = read_fragment(set.stream, segment) {
+                self.take(f)?;
+            }
         }
+        Ok(())
     }
-    Ok(())
 }

@@ -2,7 +2,7 @@
 ghost use Rattle.std.specs.Prelude.{◌≡◌, ◌≤◌, length};
 ghost use Rattle.pgs_base.specs.Outcome.{accepted, laid};
 ghost use Rattle.pgs_reassembly.specs.Objects.{joined, with_id};
-ghost use Rattle.pgs_reassembly.specs.Tables.{fragments_left, joined_in, joined_rows, AllJoinable};
+ghost use Rattle.pgs_reassembly.specs.Tables.{joined_in, joined_rows, open_fragments, AllJoinable};
 
 use crate::chain::read_fragment;
 use pgs_reassembly::ChainRow;
@@ -10,9 +10,10 @@ use pgs_set::open_set::OpenSet;
 
 // Joins the data of the fragments with this id, in the segments of an open set: `out` is its own part of the scratch, exactly as long.
 fn join_chain(set: OpenSet<'_>, id: u16, out: &mut [u8])
-    requires { length out.old ≡ length (joined (with_id id (fragments_left set.stream.now set.from))) }
-    ensures { out.new ≡ joined (with_id id (fragments_left set.entry.stream.now set.entry.from)) }
+    requires { length out.old ≡ length (joined (with_id id (open_fragments set))) }
+    ensures { out.new ≡ joined (with_id id (open_fragments set.entry)) }
 {
+    // Stays a place: of an output whose parts are taken off by `split_off_mut`, std does not say what the whole then holds.
     let mut k: usize = 0;
     for segment in set.segments() {
         if let Some(f) = read_fragment(set.stream, segment) {
@@ -36,6 +37,7 @@ pub(crate) fn join_objects(s: &[u8], rows: &[ChainRow], scratch: &mut [u8])
     requires rows_in_bounds { joined_in rows.now ≤ length scratch.old }
     ensures { scratch.new ≡ laid accepted (joined_rows s.now rows.now) scratch.old }
 {
+    // Stays a place, as in `join_chain`.
     let mut at: usize = 0;
     for row in rows {
         if row.copied {

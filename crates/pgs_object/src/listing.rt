@@ -1,8 +1,6 @@
 // Testing the chains of a set and listing its objects (01, module 7), from the rows that finding the chains left.
 ghost use Rattle.std.specs.Prelude.{◌≡◌, ◌≤◌, ◌<◌, ◌^◌, map, length, sum_by};
 ghost use Rattle.pgs_base.specs.Outcome.{accepted, laid, verdict_of};
-ghost use Rattle.pgs_reassembly.specs.Reassembly.{row_of};
-ghost use Rattle.pgs_reassembly.specs.declared.ObjectRecord.{ObjectRecord};
 ghost use Rattle.pgs_reassembly.specs.Tables.{
   total,
   rows_verdict,
@@ -11,42 +9,9 @@ ghost use Rattle.pgs_reassembly.specs.Tables.{
   records_from,
 };
 
-use pgs_base::dimensions::Dimensions;
+use pgs_base::record::FromRecord;
 use pgs_base::refusal::Refusal;
 use pgs_reassembly::{ChainRow, ObjectRecord};
-
-// A record of an object in a caller's list.
-pub trait FromObject: Copy {
-    ghost from_object: { ObjectRecord → Self };
-
-    fn from_object(object: ObjectRecord) -> Self
-        ensures { result ≡ from_object object };
-}
-
-impl FromObject for ObjectRecord {
-    ghost from_object = { λ object. object };
-
-    fn from_object(object: ObjectRecord) -> ObjectRecord {
-        object
-    }
-}
-
-// As a row of cells: id, version, width, height, 1 for the scratch or 0 for the stream, place, length.
-impl FromObject for [u64; 7] {
-    ghost from_object = { row_of };
-
-    fn from_object(object: ObjectRecord) -> [u64; 7] {
-        [
-            u64::from(object.id),
-            u64::from(object.version),
-            u64::from(object.width),
-            u64::from(object.height),
-            u64::from(object.copied),
-            object.place as u64,
-            object.len as u64,
-        ]
-    }
-}
 
 // Tests each object in first-seen order.
 pub(crate) fn check_chains(rows: &[ChainRow]) -> Result<(), Refusal>
@@ -68,6 +33,8 @@ pub(crate) fn check_chains(rows: &[ChainRow]) -> Result<(), Refusal>
 }
 
 // How many bytes of the scratch the objects take, wherever they stand.
+// Stays beside `joined_total` of pgs_render: that one adds up records, this one rows. One function for both would take an iterator of
+// records, with a contract of what it gives, and each caller would still have to make the iterator, which is most of the body.
 pub(crate) fn joined_length(rows: &[ChainRow]) -> usize
     requires { sum_by copied_in rows.now < 2 ^ 64 }
     ensures { result ≡ sum_by copied_in rows.now }
@@ -82,36 +49,33 @@ fn object_record(row: ChainRow, at: usize) -> ObjectRecord
     ensures { result ≡ record_at at row }
 {
     let f = row.first;
-    // A first fragment has dimensions.
-    // Stays 0 by 0 and no `unwrap`: the rows of a new table are `ChainRow::default()`, which has no dimensions, so that no field of a row can
-    // promise them; `record_at` reads absent dimensions as 0 by 0 too.
-    let size = f.ods.dimensions.unwrap_or(Dimensions {
-        width: 0,
-        height: 0,
-    });
     ObjectRecord {
         id: f.ods.object_id,
         version: f.ods.object_version_number,
-        width: size.width,
-        height: size.height,
+        // A first fragment has dimensions.
+        // Stays 0 by 0 and no `unwrap`: the rows of a new table are `ChainRow::default()`, which has no dimensions, so that no field of a row
+        // can promise them; `record_at` reads absent dimensions as 0 by 0 too.
+        size: f.ods.dimensions.unwrap_or_default(),
         copied: row.copied,
         place: if row.copied { at } else { f.start },
         len: row.len,
     }
 }
 
-// Stores a record for each row.
-pub(crate) fn list_records<R: FromObject>(rows: &[ChainRow], objects: &mut [R])
+// Stores a record for each row, one in each cell of the list.
+// Stays a `zip` by hand: of a list written through `zip` of its `iter_mut`, std says nothing. Where an object's data stands in the scratch
+// is the sum of those before it, which the loop carries along.
+pub(crate) fn list_records<R: FromRecord<ObjectRecord>>(rows: &[ChainRow], objects: &mut [R])
     requires rows_bound { total rows.now < 2 ^ 64 }
     requires rows_in_bounds { length rows.now ≤ length objects.old }
-    ensures { objects.new ≡ laid accepted (map R.from_object (records_from 0 rows.now)) objects.old }
+    ensures { objects.new ≡ laid accepted (map R.from_record (records_from 0 rows.now)) objects.old }
 {
     let mut left = rows.iter();
     let mut at: usize = 0;
     for object in &mut objects[..rows.len()] {
         if let Some(row) = left.next() {
             let record = object_record(*row, at);
-            *object = R::from_object(record);
+            *object = R::from_record(record);
             at += record.joined_len();
         }
     }

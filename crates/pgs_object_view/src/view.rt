@@ -9,9 +9,9 @@ use pgs_reassembly::part;
 pub fn object_data<'a>(stream: &'a [u8], scratch: &'a [u8], object: [u64; 7]) -> &'a [u8]
     ensures { result.now ≡ shown_by stream.now scratch.now object }
 {
-    let holder = object[4];
-    let place = object[5] as usize;
-    let len = object[6] as usize;
+    let [.., holder, place, len] = object;
+    let place = place as usize;
+    let len = len as usize;
     // Stays a number: the record is a row of the C interface, and a row that no call made may name no holder.
     match holder {
         0 => part(stream, place, len),

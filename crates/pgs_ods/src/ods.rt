@@ -30,6 +30,7 @@ pub struct Ods {
 }
 
 // Whether a body is that of a first fragment, by its flag.
+// Stays beside `Ods::is_first`: the dimensions of an `Ods` are read by it, before there is one.
 fn is_first(body: &[u8]) -> bool
     ensures { result ≡ is_first (fragment_of (flag_of body.now)) }
 {
@@ -51,17 +52,12 @@ fn head_size(body: &[u8]) -> usize
 pub fn check_ods(body: &[u8]) -> Result<BodyList, Refusal>
     ensures { outcome result ≡ outcome_of (ods_verdict body.now) (ods_list body.now) }
 {
-    if body.len() < Ods::SIZE {
-        return Err(Refusal::FieldPastEnd);
-    }
     let start = head_size(body);
-    if body.len() < start {
-        return Err(Refusal::FieldPastEnd);
-    }
+    let data = body.get(start..).ok_or(Refusal::FieldPastEnd)?;
     Ok(BodyList {
-        count: 0,
         start,
-        len: body.len() - start,
+        len: data.len(),
+        ..BodyList::default()
     })
 }
 

@@ -1,5 +1,5 @@
 // One placement painted onto a plane of pixels, R, G, B and alpha, row by row.
-ghost use Rattle.std.specs.Prelude.{◌≡◌, ◌+◌, ◌*◌, ◌<◌, length, get_or};
+ghost use Rattle.std.specs.Prelude.{◌≡◌, List, ℕ, ◌+◌, ◌*◌, ◌<◌, length, get_or, take};
 ghost use Rattle.pgs_base.specs.Outcome.{verdict_of};
 ghost use Rattle.pgs_plane.specs.Strips.{strip};
 ghost use Rattle.pgs_plane.specs.Placing.{image_of, part_of, table_color};
@@ -93,19 +93,17 @@ fn clip(placement: CompositionObject, object: Dimensions, plane: Dimensions) -> 
     }
 }
 
-// Stores the colours of a row of indices. The four bytes are loaded before they are stored, so that a pixel is one store.
-// Stays by index: of a slice lent in pieces by `chunks_exact_mut` or `as_chunks_mut`, std does not say what it then holds.
+// Stores the colours of a row of indices: those of each table that has this front, since an index is a byte. A pixel is one load and one
+// store.
+// Stays by index: of a slice lent in pieces by `chunks_exact_mut` or `as_chunks_mut`, std does not say what it then holds. By
+// `split_first_chunk_mut` in a loop, std says it of each turn, but past the loop, which goes on with another loan each turn, nothing is known.
 fn paint_row(pixels: &[u8], table: Table<'_>, row: &mut [u8])
     requires { length row.old ≡ 4 * length pixels.now }
-    ensures { row.new ≡ strip (λ k. table_color table.entry.bytes.now (get_or pixels.now k 0)) 0 (length pixels.now) }
+    ensures { (t : List ℕ) → table.entry.bytes.now ≡ take 1024 t
+        → row.new ≡ strip (λ k. table_color t (get_or pixels.now k 0)) 0 (length pixels.now) }
 {
     for (i, index) in pixels.iter().enumerate() {
-        let color = table.color(*index);
-        let at = 4 * i;
-        row[at] = color.r;
-        row[at + 1] = color.g;
-        row[at + 2] = color.b;
-        row[at + 3] = color.a;
+        row[4 * i..4 * i + 4].copy_from_slice(&<[u8; 4]>::from(table.color(*index)));
     }
 }
 
@@ -127,7 +125,8 @@ fn paint_rows(
     plane: &mut [u8],
 )
     requires { Paintable visible image.size image.indices.now size plane.old }
-    ensures { RowsPainted visible image.entry.size image.entry.indices.now table.entry.bytes.now size plane.old plane.new }
+    ensures { (t : List ℕ) → table.entry.bytes.now ≡ take 1024 t
+        → RowsPainted visible image.entry.size image.entry.indices.now t size plane.old plane.new }
 {
     let columns = usize::from(visible.columns);
     for j in 0..usize::from(visible.rows) {
@@ -142,6 +141,7 @@ fn paint_rows(
 }
 
 // Paints a placement of a bitmap onto a plane, with the colours of a palette table.
+// Stays by size and plane, as `clear_plane`.
 pub fn paint_placement(
     placement: CompositionObject,
     image: Image<'_>,

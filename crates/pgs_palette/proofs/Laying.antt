@@ -6,12 +6,13 @@ use mathlib.Core.List.{List, [], ◌∷◌, ◌++◌, map, append_assoc}
 use mathlib.Core.Option.{Option, none, some}
 use Prim.Native.Nat.{ℕ, zero, suc, ◌+◌, ◌*◌, ◌≤◌, ◌<◌}
 use native.Mathlib.Nat.{add-zero, zero-add, add-suc, le_refl, le_of_suc-le-suc, not-suc-le-zero}
-use native.Mathlib.Numerals.{add-one, towards_suc}
+use native.Mathlib.Numerals.{add-one}
 use native.Mathlib.Omega.{arith}
 use borrow.Author.Tests.{eq-eqb, ne_eqb}
 use lib.Dec.{eqb, lit<}
 use lib.ListN.{length, get_or, take, drop, set, replicate, length-append, length-drop, length-replicate, take-append-drop, get_or-replicate, get_or-append, drop_of_length-le}
 use lib.Seq.{sets, sets-eq, take_at, drop_at, length-take-le, take-set-le, take-add, drop-drop, drop-set-add, get_or-append-add, get_or-take, drop-cons}
+use Rattle.std.specs.Simd.{first_chunks}
 use Rattle.pgs_base.specs.Outcome.{pick}
 use Rattle.pgs_palette.specs.Palette.{Entry, entry_of, applying, or_else, lookup, Conversion, color_of, color_at, entry_or, transparent}
 use Rattle.pgs_palette.specs.Table.{pixel_of, pixel_over, laid_from, laid, cleared, pixel_at}
@@ -30,9 +31,12 @@ take-sets : (n : ℕ) (l : List ℕ) (i : ℕ) (vs : List ℕ) → n ≤ i → t
 take-sets n l i [] h = refl
 take-sets n l i (v ∷ vs) h = take-sets n (set l i v) (suc i) vs (omega arith) ∙ take-set-le n l i v h
 
--- the four stores of a pixel
-pub stored-pixel : (t : List ℕ) (at : ℕ) (c : Rgba8) → set (set (set (set t at c.r) (at + 1) c.g) (at + 2) c.b) (at + 3) c.a ≡ sets t at (pixel_of c)
-stored-pixel t at c = simp towards_suc
+-- the four bytes of a pixel, stored at a place
+pub stored-pixel : (t : List ℕ) (at : ℕ) (c : Rgba8) → at + 4 ≤ length t → take at t ++ (pixel_of c ++ drop 4 (drop at t)) ≡ sets t at (pixel_of c)
+stored-pixel t at c h =
+    sym (append_assoc (take at t) (pixel_of c) (drop 4 (drop at t)))
+    ∙ ap (λ (l : List ℕ). take at t ++ pixel_of c ++ l) (drop-drop 4 at t)
+    ∙ sym (sets-eq (pixel_of c) t at h)
 
 -- ---- looking up in two lists, one after the other
 
@@ -219,6 +223,39 @@ later-pixel p r k four =
       a = later-byte p r (suc k * 4 + 3) (k * 4 + 3) four (omega arith) i;
     }
 
+-- as the first of four bytes, and in what is behind them
+pixel-of-four : (t : List ℕ) → pixel_at (take 4 t) 0 ≡ pixel_at t 0
+pixel-of-four t =
+    λ i.
+    record {
+      r = get_or-take 4 t 0 0 (lit< tt) i;
+      g = get_or-take 4 t 1 0 (lit< tt) i;
+      b = get_or-take 4 t 2 0 (lit< tt) i;
+      a = get_or-take 4 t 3 0 (lit< tt) i;
+    }
+
+pixel-behind : (t : List ℕ) (k : ℕ) → 4 ≤ length t → pixel_at (drop 4 t) k ≡ pixel_at t (suc k)
+pixel-behind t k h =
+    sym (later-pixel (take 4 t) (drop 4 t) k (length-take-le 4 t h)) ∙ ap (λ (l : List ℕ). pixel_at l (suc k)) (take-append-drop 4 t)
+
+-- the pixel of an index is the chunk of that number
+pub chunk-pixel : (t : List ℕ) (n k : ℕ) (d : List ℕ) → n * 4 ≤ length t → k < n → pixel_at (get_or (first_chunks 4 n t) k d) 0 ≡ pixel_at t k
+chunk-pixel t zero k d h below = absurd (not-suc-le-zero below)
+chunk-pixel t (suc n) zero d h below = pixel-of-four t
+chunk-pixel t (suc n) (suc k) d h below =
+    chunk-pixel (drop 4 t) n k d (rest n t h) (le_of_suc-le-suc below) ∙ pixel-behind t k (omega arith)
+
+-- the front of a table has the pixel of each index
+pub front-pixel : (t : List ℕ) (i : ℕ) → i < 256 → pixel_at (take 1024 t) i ≡ pixel_at t i
+front-pixel t i h =
+    λ k.
+    record {
+      r = get_or-take 1024 t (i * 4) 0 (omega arith) k;
+      g = get_or-take 1024 t (i * 4 + 1) 0 (omega arith) k;
+      b = get_or-take 1024 t (i * 4 + 2) 0 (omega arith) k;
+      a = get_or-take 1024 t (i * 4 + 3) 0 (omega arith) k;
+    }
+
 module _ (convert : Conversion) where
   first-pixel : (o : Option Entry) (t r : List ℕ) → 4 ≤ length t → pixel_at (pixel_over convert o (take 4 t) ++ r) 0 ≡ entry_or (color_of convert) (pixel_at t 0) o
   first-pixel none t r h =
@@ -240,11 +277,9 @@ module _ (convert : Conversion) where
       ∙ ap (λ (j : ℕ). entry_or (color_of convert) (pixel_at t 0) (lookup es j)) (sym (add-zero i))
   from-pixel es (suc n) i (suc k) t h below =
       let here : suc i + k ≡ i + suc k = omega arith in
-      let old : pixel_at (drop 4 t) k ≡ pixel_at t (suc k) =
-      sym (later-pixel (take 4 t) (drop 4 t) k (front n t h)) ∙ ap (λ (l : List ℕ). pixel_at l (suc k)) (take-append-drop 4 t) in
       later-pixel (pixel_over convert (lookup es i) (take 4 t)) (laid_from convert es n (suc i) (drop 4 t)) k (pixel-length convert (lookup es i) (take 4 t) (front n t h))
       ∙ from-pixel es n (suc i) k (drop 4 t) (rest n t h) (le_of_suc-le-suc below)
-      ∙ ap (λ (c : Rgba8). entry_or (color_of convert) c (lookup es (suc i + k))) old
+      ∙ ap (λ (c : Rgba8). entry_or (color_of convert) c (lookup es (suc i + k))) (pixel-behind t k (omega arith))
       ∙ ap (λ (j : ℕ). entry_or (color_of convert) (pixel_at t (suc k)) (lookup es j)) here
 
   -- the pixel of an index: its entry's colour, or what stood there

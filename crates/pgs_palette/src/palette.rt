@@ -1,9 +1,9 @@
 // The palette that painting looks colours up in: a lent table of 1,024 bytes, R, G, B and alpha for each of the 256 indices.
-ghost use Rattle.std.specs.Prelude.{◌≡◌, [], ◌∷◌, map, ◌≤◌, IfOk, length};
+ghost use Rattle.std.specs.Prelude.{◌≡◌, [], ◌∷◌, map, IfOk, take};
 ghost use Rattle.pgs_base.specs.Outcome.{outcome, outcome_of, unless, verdict_of};
 ghost use Rattle.pgs_color.specs.Bytes.{rgb_of};
 ghost use Rattle.pgs_palette.specs.Palette.{entry_of, applying, color_of};
-ghost use Rattle.pgs_palette.specs.Table.{laid, cleared, pixel_at, holds, Updates};
+ghost use Rattle.pgs_palette.specs.Table.{laid, cleared, pixel_at, pixel_of, holds, Updates};
 
 use pgs_base::refusal::Refusal;
 use pgs_color::ycbcr::{Rgb8, ycbcr709_to_rgb};
@@ -17,25 +17,44 @@ pub struct Rgba8 {
     pub a: u8,
 }
 
+// The four bytes of a pixel as a colour.
+impl From<[u8; 4]> for Rgba8 {
+    ghost from_gives = { λ bytes color. color ≡ pixel_at bytes 0 };
+
+    fn from(bytes: [u8; 4]) -> Self {
+        let [r, g, b, a] = bytes;
+        Rgba8 { r, g, b, a }
+    }
+}
+
+// A colour as the four bytes of a pixel.
+impl From<Rgba8> for [u8; 4] {
+    ghost from_gives = { λ color bytes. bytes ≡ pixel_of color };
+
+    fn from(color: Rgba8) -> Self {
+        let Rgba8 { r, g, b, a } = color;
+        [r, g, b, a]
+    }
+}
+
 // Bytes of a table.
 pub const TABLE_LEN: usize = 1024;
 
-// A lent table that is long enough to look each index up in.
+// A lent table to look each index up in.
 #[derive(Clone, Copy, Debug)]
 pub struct Table<'a> {
-    pub bytes: &'a [u8],
-    ghost room: { 1024 ≤ length bytes.now },
+    pub bytes: &'a [u8; TABLE_LEN],
 }
 
 impl<'a> Table<'a> {
-    // Takes a table unless it is too short.
+    // Takes the table at the front of the bytes, unless they are too few.
     pub fn new(bytes: &'a [u8]) -> Result<Table<'a>, Refusal>
         ensures verdict { verdict_of result ≡ unless 34 (holds bytes.now) }
-        ensures bytes { IfOk result (λ t. t.bytes.now ≡ bytes.now) }
+        ensures bytes { IfOk result (λ t. t.bytes.now ≡ take 1024 bytes.now) }
     {
-        if bytes.len() < TABLE_LEN {
-            return Err(Refusal::BufferTooSmall);
-        }
+        let bytes = bytes
+            .first_chunk::<TABLE_LEN>()
+            .ok_or(Refusal::BufferTooSmall)?;
         Ok(Table { bytes })
     }
 
@@ -43,19 +62,16 @@ impl<'a> Table<'a> {
     pub fn color(self, index: u8) -> Rgba8
         ensures { result ≡ pixel_at self.entry.bytes.now index }
     {
-        let at = usize::from(index) * 4;
-        Rgba8 {
-            r: self.bytes[at],
-            g: self.bytes[at + 1],
-            b: self.bytes[at + 2],
-            a: self.bytes[at + 3],
-        }
+        let bytes = self.bytes;
+        let (colors, _) = bytes.as_chunks::<4>();
+        Rgba8::from(colors[usize::from(index)])
     }
 }
 
 // The colour of an entry, a record of id, Y, Cr, Cb and alpha. Unlike the Rust's, it takes Cb for Cb and Cr for Cr.
-// Stays `to_rgba`, as the Rust names it: here an entry is a row of the C interface, five bytes, and `Rgba8::from` of five bytes would not say
-// that they are one.
+// Stays `to_rgba`, as the Rust names it: `Rgba8::from` takes four bytes as they are, and of an entry's five it would convert them. Their
+// number alone would tell the two apart. Nor from a `PaletteEntry` of pgs_pds: an entry is a row of five bytes here, as the C interface lends
+// it, and would be made into one only to be taken apart.
 pub fn to_rgba(entry: [u8; 5]) -> Rgba8
     ensures { result ≡ color_of rgb_of (entry_of entry) }
 {
@@ -65,15 +81,12 @@ pub fn to_rgba(entry: [u8; 5]) -> Rgba8
 }
 
 // Stores an entry's colour at its index.
+// Stays by index: of a table lent in pieces by `as_chunks_mut`, std does not say what it then holds.
 fn put(entry: [u8; 5], table: &mut [u8; TABLE_LEN])
     ensures { table.new ≡ laid rgb_of (entry_of entry ∷ []) table.old }
 {
     let at = usize::from(entry[0]) * 4;
-    let c = to_rgba(entry);
-    table[at] = c.r;
-    table[at + 1] = c.g;
-    table[at + 2] = c.b;
-    table[at + 3] = c.a;
+    table[at..at + 4].copy_from_slice(&<[u8; 4]>::from(to_rgba(entry)));
 }
 
 // Stores the entries' colours in order, so that of two with one id the later stays.
@@ -86,6 +99,7 @@ fn lay(entries: &[[u8; 5]], table: &mut [u8; TABLE_LEN])
 }
 
 // Empties a table: no index has an entry.
+// Stays by a slice, as `apply`: their C calls lend any number of bytes, and fewer than a table has are refused here. `get` takes the same.
 pub fn clear(table: &mut [u8]) -> Result<(), Refusal>
     ensures { Updates cleared (verdict_of result) table.old table.new }
 {
@@ -97,6 +111,7 @@ pub fn clear(table: &mut [u8]) -> Result<(), Refusal>
 }
 
 // Lays the entries of one palette segment over a table, if the PCS names the segment's palette.
+// Stays by entries and two ids, which C's call has, and not by a `Pds`, as the Rust: C lends the entries as rows.
 pub fn apply(
     entries: &[[u8; 5]],
     palette_id: u8,

@@ -2,6 +2,7 @@
 ghost use Rattle.std.specs.Prelude.{◌≡◌};
 ghost use Rattle.pgs_base.specs.Outcome.{outcome, outcome_of, Delivered};
 ghost use Rattle.pgs_pcs.specs.PcsBody.{
+  cropped,
   placement_of,
   placement_size,
   placement_row,
@@ -41,7 +42,7 @@ pub struct CompositionObject {
 }
 
 // The numbers of a PCS; its placements stand in a list.
-#[derive(Clone, Copy, Debug, PartialEq, Eq)]
+#[derive(Clone, Copy, Debug, Default, PartialEq, Eq)]
 pub struct Pcs {
     pub width: u16,
     pub height: u16,
@@ -63,11 +64,18 @@ impl CompositionObject {
     // How many with a crop.
     pub const CROPPED_SIZE: usize = 16;
 
-    // The crop of the placement at the front of `l`.
+    // Whether the placement at the front of `l` has a crop.
+    fn is_cropped(l: &[u8]) -> bool
+        ensures { result ≡ cropped l.now }
+    {
+        u8_at(l, 3) == CompositionObject::CROPPED_FLAG
+    }
+
+    // Its crop.
     fn cropping(l: &[u8]) -> Option<CompositionObjectCrop>
         ensures { result ≡ cropping_of l.now }
     {
-        if u8_at(l, 3) == CompositionObject::CROPPED_FLAG {
+        if CompositionObject::is_cropped(l) {
             Some(CompositionObjectCrop {
                 horizontal_position: u16_at(l, 8),
                 vertical_position: u16_at(l, 10),
@@ -81,6 +89,7 @@ impl CompositionObject {
 }
 
 impl ListRecord for CompositionObject {
+    // Stays a row: the C interface lends rows.
     type Row = [u16; 10];
 
     ghost value = { placement_of };
@@ -90,7 +99,7 @@ impl ListRecord for CompositionObject {
     ghost to_row = { placement_row };
 
     fn size(l: &[u8]) -> usize {
-        if u8_at(l, 3) == CompositionObject::CROPPED_FLAG {
+        if CompositionObject::is_cropped(l) {
             CompositionObject::CROPPED_SIZE
         } else {
             CompositionObject::SIZE
@@ -148,7 +157,7 @@ impl Pcs {
     pub(crate) const COUNT_AT: usize = 10;
 
     // How many bytes the numbers and the count take.
-    pub(crate) const SIZE: usize = 11;
+    pub const SIZE: usize = 11;
 
     // The numbers at their places, also of a body that is cut short.
     pub fn numbers(body: &[u8]) -> Pcs

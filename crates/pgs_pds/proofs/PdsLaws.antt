@@ -1,13 +1,15 @@
 -- How testing and reading a PDS body end, over its bytes. Assumes nothing.
-use mathlib.Core.Path.{◌≡◌, ap, ◌∙◌}
+use mathlib.Core.Path.{◌≡◌, refl, ap, ◌∙◌}
 use mathlib.Core.Bool.{true}
-use mathlib.Core.List.{List, map}
-use Prim.Native.Nat.{ℕ, ◌-◌, ◌*◌, ◌/◌, ◌%◌, ◌≤◌, ◌<◌}
+use mathlib.Core.List.{List, [], ◌∷◌, map}
+use Prim.Native.Nat.{ℕ, zero, suc, ◌-◌, ◌*◌, ◌/◌, ◌≤◌, ◌<◌}
 use native.Mathlib.Omega.{arith}
-use borrow.Author.Tests.{leb-true, le-leb, lt-leb, eq-eqb, ne_eqb}
+use borrow.Author.Tests.{leb-true, le-leb}
 use lib.Dec.{leb}
 use lib.ListN.{length, take, drop, length-drop}
-use Rattle.pgs_base.specs.Outcome.{Outcome, gives, refuses, accepted, outcome_of, unless, Delivered}
+use Rattle.pgs_base.specs.Outcome.{Outcome, gives, accepted, outcome_of, unless, Delivered}
+use Rattle.std.specs.Simd.{first_chunks}
+use Rattle.pgs_base.proofs.Bytes.{num-byte}
 use Rattle.pgs_base.proofs.Lists.{to_end}
 use Rattle.pgs_base.proofs.Outcomes.{gave, gave-value, first_holds}
 use Rattle.pgs_records.specs.declared.BodyList.{BodyList}
@@ -16,16 +18,6 @@ use Rattle.pgs_pds.specs.PdsBody.{entry_of, entry_row, entry_rows, entry_size, e
 use Rattle.pgs_records.proofs.RecordLaws.{fit-fixed}
 
 module _ (b : List ℕ) where
-  pub short-numbers : length b < 2 → refuses 4 ≡ outcome_of (pds_verdict b) (pds_list b)
-  short-numbers h = simp (lt-leb 2 (length b) h)
-
-  pub partial-entry : 2 ≤ length b → ((length b - 2) % 5 ≡ 0 → ⊥) → refuses 5 ≡ outcome_of (pds_verdict b) (pds_list b)
-  partial-entry h e = simp (le-leb 2 (length b) h, ne_eqb ((length b - 2) % 5) 0 e)
-
-  pub whole-entries : 2 ≤ length b → (length b - 2) % 5 ≡ 0
-      → gives (record { count = (length b - 2) / 5; start = 2; len = length b - 2 }) ≡ outcome_of (pds_verdict b) (pds_list b)
-  whole-entries h e = simp (le-leb 2 (length b) h, eq-eqb ((length b - 2) % 5) 0 e)
-
   -- an accepted body has its numbers; the entries that are counted are always whole
   pub has-numbers : pds_verdict b ≡ accepted → 2 ≤ length b
   has-numbers e = leb-true 2 (length b) (first_holds 4 (leb 2 (length b)) _ e)
@@ -47,3 +39,40 @@ module _ (b : List ℕ) where
         → Delivered (pds_verdict b) x (entry_rows b) before now answer
     unfolding entry_rows
     entries-delivered d = rw (gave (pds_verdict b) (pds_list b) tested) (rw (to_end 2 b, count-is, has-entries) at d)
+
+-- five bytes are an entry as a caller's list holds it
+chunk-row : (l : List ℕ) → 5 ≤ length l → take 5 l ≡ entry_row (entry_of l)
+chunk-row [] h = absurd (omega arith)
+chunk-row (a ∷ []) h = absurd (omega arith)
+chunk-row (a ∷ b ∷ []) h = absurd (omega arith)
+chunk-row (a ∷ b ∷ c ∷ []) h = absurd (omega arith)
+chunk-row (a ∷ b ∷ c ∷ d ∷ []) h = absurd (omega arith)
+chunk-row (a ∷ b ∷ c ∷ d ∷ e ∷ l) h =
+    let body : List ℕ = a ∷ b ∷ c ∷ d ∷ e ∷ l in
+    λ j.
+    num-byte 0 body (omega (arith, h)) j
+    ∷ num-byte 1 body (omega (arith, h)) j
+    ∷ num-byte 2 body (omega (arith, h)) j
+    ∷ num-byte 3 body (omega (arith, h)) j
+    ∷ num-byte 4 body (omega (arith, h)) j
+    ∷ []
+
+chunk-rows : (n : ℕ) (l : List ℕ) → 5 * n ≤ length l → first_chunks 5 n l ≡ map entry_row (records entry_of entry_size n l)
+chunk-rows zero l h = refl
+chunk-rows (suc n) l h = λ j. chunk-row l (omega arith) j ∷ chunk-rows n (drop 5 l) (omega (arith, length-drop 5 l)) j
+
+-- the chunks of what follows the numbers, as the code lends it, are the entries; a body without numbers has none
+module _ (b : List ℕ) where
+  pub rows-cut : {chunks : List (List ℕ)} → chunks ≡ first_chunks 5 (length (after_numbers b) / 5) (after_numbers b) → chunks ≡ entry_rows b
+  unfolding entry_rows
+  rows-cut e =
+      e
+      ∙ ap (λ (l : List ℕ). first_chunks 5 (length l / 5) l) (to_end 2 b)
+      ∙ ap (λ (n : ℕ). first_chunks 5 (n / 5) (drop 2 b)) (length-drop 2 b)
+      ∙ chunk-rows (entry_count b) (drop 2 b) (omega (arith, length-drop 2 b))
+
+  pub rows-none : length b < 2 → [] ≡ entry_rows b
+  unfolding entry_rows
+  rows-none h =
+      let none : 0 ≡ entry_count b = omega (arith, h) in
+      ap (λ (n : ℕ). map entry_row (records entry_of entry_size n (drop 2 b))) none

@@ -40,6 +40,7 @@ impl PaletteEntry {
 }
 
 impl ListRecord for PaletteEntry {
+    // Stays a row: the C interface lends rows.
     type Row = [u8; 5];
 
     ghost value = { entry_of };
@@ -76,10 +77,10 @@ impl ListRecord for PaletteEntry {
 pub fn check_pds(body: &[u8]) -> Result<BodyList, Refusal>
     ensures { outcome result ≡ outcome_of (pds_verdict body.now) (pds_list body.now) }
 {
-    if body.len() < Pds::SIZE {
-        return Err(Refusal::FieldPastEnd);
-    }
-    let len = body.len() - Pds::SIZE;
+    let len = body
+        .len()
+        .checked_sub(Pds::SIZE)
+        .ok_or(Refusal::FieldPastEnd)?;
     if len % PaletteEntry::SIZE != 0 {
         return Err(Refusal::PartialPaletteEntry);
     }
@@ -101,6 +102,16 @@ impl Pds {
         Pds {
             palette_id: u8_at(body, 0),
             palette_version_number: u8_at(body, 1),
+        }
+    }
+
+    // The entries behind the numbers, those that are whole of a body that is cut short.
+    pub fn entries(body: &[u8]) -> &[[u8; 5]]
+        ensures { result.now ≡ entry_rows body.now }
+    {
+        match body {
+            [_, _, rest @ ..] => rest.as_chunks::<5>().0,
+            _ => &[],
         }
     }
 

@@ -14,6 +14,9 @@ pub fn plane_bytes(size: Dimensions) -> usize
 }
 
 // Makes every pixel of a plane 00 00 00 00.
+// Stays by size and bytes, as painting does: a struct of both would hold the lent bytes. Lent to a call, it would need the promise that it holds
+// the same loan still; without that, tried, nothing is proved of the plane after the call. By value, a contract could name what the bytes then
+// hold by number alone, as `plane.exit.1.0.now`.
 pub fn clear_plane(size: Dimensions, plane: &mut [u8]) -> Result<(), Refusal>
     ensures { Clears size.width size.height plane.old (verdict_of result) plane.new }
 {

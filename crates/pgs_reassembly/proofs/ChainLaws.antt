@@ -290,3 +290,9 @@ total-after rows f = go (is_opening f)
     go : (b : Bool) → total (pick b (rows ++ (new_row f ∷ [])) (extended f rows)) ≤ total rows + f.len
     go true = omega (arith, total-append rows (new_row f))
     go false = total-extended f rows
+
+-- fragments together add no more than their data
+pub total-with : (rows : List ChainRow) (fs : List Fragment) → total (rows_with rows fs) ≤ total rows + length (joined fs)
+total-with rows [] = omega arith
+total-with rows (f ∷ fs) =
+    omega (arith, total-with (rows_after rows (fragment_numbers f)) fs, total-after rows (fragment_numbers f), length-append f.bytes (joined fs))

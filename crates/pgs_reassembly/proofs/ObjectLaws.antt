@@ -7,21 +7,22 @@ use native.Mathlib.Omega.{arith}
 use borrow.Author.Tests.{eq-eqb, le-leb, lt-leb, leb-true}
 use lib.Dec.{leb, ltb}
 use lib.ListN.{length, take, drop, length-map}
-use Rattle.pgs_base.specs.Outcome.{Verdict, accepted, refused, Outcome, gives, refuses, and_then, unless, needing, laid, delivery, Delivered, pick}
-use Rattle.pgs_base.proofs.Outcomes.{not-both, not-refused, holds, second_holds}
+use Rattle.pgs_base.specs.Outcome.{Verdict, accepted, refused, gives, refuses, and_then, unless, needing, laid, delivery, Delivered, pick}
+use Rattle.pgs_base.proofs.Outcomes.{not-both, not-refused, first-accepts, holds, second_holds}
 use Rattle.pgs_segment.specs.OneSegment.{segment_type, used_by}
 use Rattle.pgs_stream.specs.Stream.{Reading, step_verdict}
 use Rattle.pgs_stream.proofs.StreamLaws.{read-stops}
 use Rattle.pgs_set.proofs.Choices.{pick_first}
-use Rattle.pgs_set.proofs.NumberLaws.{stands-begins}
 use Rattle.pgs_set.proofs.SegmentLaws.{by-segments}
-use Rattle.pgs_set.proofs.SetLaws.{set_here, inside-here, outside-here}
+use Rattle.pgs_set.proofs.SetLaws.{set_here, inside-here, opens-here, outside-here}
 use Rattle.pgs_set.proofs.WalkLaws.{pieces-here, piece-length}
 use Rattle.pgs_set.specs.Sets.{set_number, set_verdict, is_end, through_end, set_count, sets_verdict}
-use Rattle.pgs_set.specs.Walks.{pieces_at, InSet, SetBegins, SetStands, set_at}
+use Rattle.pgs_set.specs.Walks.{pieces_at, InSet, SetBegins, set_at}
+use Rattle.pgs_set.specs.declared.open_set.PlacedSet.{PlacedSet}
 use Rattle.pgs_stream.specs.declared.segments.PlacedSegment.{PlacedSegment}
-use Rattle.pgs_reassembly.proofs.FragmentLaws.{none_left, left-same, left-next}
-use Rattle.pgs_reassembly.proofs.ListingLaws.{rows-verdict, rows-joined, rows-records, objects-count}
+use Rattle.pgs_reassembly.proofs.ChainLaws.{rows-all, total-with}
+use Rattle.pgs_reassembly.proofs.FragmentLaws.{none_left, left-same, left-next, bytes-left}
+use Rattle.pgs_reassembly.proofs.ListingLaws.{joined-total, rows-verdict, rows-joined, rows-records, objects-count}
 use Rattle.pgs_reassembly.specs.Objects.{Fragment, Chain, is_ods, fragment_at, fragments_from, id_of, opens_chain}
 use Rattle.pgs_reassembly.specs.Objects.{with_id, joined, chains_of, data_of, chains_verdict, fragments_verdict, object_limit}
 use Rattle.pgs_reassembly.specs.Objects.{verdict_after, fragments_of, objects_of, objects_verdict, objects_verdict_within}
@@ -293,7 +294,7 @@ module _ (v : Verdict) (cs : List Chain) (scratch : List ℕ) where
           record { answered = sym room; written = e ∙ (λ j. laid (sym room j) ((f.found refl).bytes j) scratch) }
 
 -- the set is looked for before its objects
-set_first : (limit k : ℕ) (s : List ℕ) → objects_verdict_within limit k s ≡ and_then (set_verdict k s) (fragments_verdict limit (fragments_of (set_number k s)))
+pub set_first : (limit k : ℕ) (s : List ℕ) → objects_verdict_within limit k s ≡ and_then (set_verdict k s) (fragments_verdict limit (fragments_of (set_number k s)))
 set_first limit k s = go (sets_verdict s)
   where
     go : (v : Verdict)
@@ -309,10 +310,27 @@ begin-fragments s {at} b =
     ∙ ap (λ (n : ℕ). fragments_from (at + n) (through_end (pieces_at s (at + used_by (drop at s)))))
     (piece-length (drop at s) (outside-here s b.standing b.more))
 
+-- the data joined of objects that are accepted is no longer than the stream
+pub joined-within : (s : List ℕ) {at : ℕ} → SetBegins s at → fragments_verdict object_limit (fragments_of (set_at s at)) ≡ accepted
+    → length (joined_data (chains_of (fragments_of (set_at s at)))) ≤ length s
+joined-within s {at} b e =
+    let fs = fragments_of (set_at s at) in
+    let cs = chains_of fs in
+    let rows = rows-all fs (first-accepts (verdict_after object_limit [] fs) (chains_verdict cs) e) in
+    omega (
+      arith,
+      rows-joined cs,
+      joined-total (map chain_row cs),
+      ap total rows,
+      total-with [] fs,
+      ap (λ (l : List Fragment). length (joined l)) (begin-fragments s b),
+      bytes-left s (opens-here s b.standing b.more),
+    )
+
 -- the set of a number, where its PCS stands
-module _ (s : List ℕ) (k : ℕ) {r : ℕ} (st : SetStands s k r) where
-  pub set-fragments : fragments_of (set_number k s) ≡ fragments_left s (r + used_by (drop r s))
-  set-fragments = ap fragments_of (sym st.found) ∙ begin-fragments s (stands-begins s k st)
+module _ (s : List ℕ) (k : ℕ) {r : ℕ} (b : SetBegins s r) (its : set_at s r ≡ set_number k s) where
+  set-fragments : fragments_of (set_number k s) ≡ fragments_left s (r + used_by (drop r s))
+  set-fragments = ap fragments_of (sym its) ∙ begin-fragments s b
 
   -- its objects are those found from there
   set-objects : objects_of k s ≡ chains_of (fragments_left s (r + used_by (drop r s)))
@@ -323,19 +341,13 @@ module _ (s : List ℕ) (k : ℕ) {r : ℕ} (st : SetStands s k r) where
   set-verdict a =
       set_first object_limit k s ∙ (λ j. and_then (a j) (fragments_verdict object_limit (set-fragments j)))
 
-  -- what finding the objects there answers is what it answers for the set
-  pub set-found : set_verdict k s ≡ accepted → {t : List ℕ} {from : ℕ} → t ≡ s → from ≡ r + used_by (drop r s) → {now : List ChainRow} {answer : Verdict}
-      → Found t (fragments_verdict object_limit (fragments_left t from)) (chains_of (fragments_left t from)) now answer
-      → Found s (objects_verdict k s) (objects_of k s) now answer
-  set-found a es ef {now} {answer} f = rw (set-verdict a, set-objects) (rw (es, ef) at f)
-
-  -- and so is what listing them promises
-  pub set-listed : set_verdict k s ≡ accepted → {t : List ℕ} {from : ℕ} → t ≡ s → from ≡ r + used_by (drop r s) → {A : Type 0} (made : ObjectRecord → A)
-      → {list list' : List A} {answer : Outcome ℕ}
-      → Delivered (fragments_verdict object_limit (fragments_left t from)) (length (chains_of (fragments_left t from)))
-      (map made (object_records (chains_of (fragments_left t from)))) list list' answer
-      → Delivered (objects_verdict k s) (length (objects_of k s)) (map made (object_records (objects_of k s))) list list' answer
-  set-listed a es ef made d = rw (set-verdict a, set-objects) (rw (es, ef) at d)
+-- what holds of the objects found in the set that was placed holds of the set's
+pub set-found : (k : ℕ) {s : List ℕ} (p : PlacedSet) → (p.stream.now ≡ s) × (set_verdict k s ≡ accepted) × (set_at s p.place ≡ set_number k s)
+    → {t : List ℕ} {from : ℕ} → t ≡ p.stream.now → from ≡ p.place + used_by (drop p.place p.stream.now) → (P : List ℕ → Verdict → List Chain → Type 0)
+    → P t (fragments_verdict object_limit (fragments_left t from)) (chains_of (fragments_left t from)) → P s (objects_verdict k s) (objects_of k s)
+set-found k {s} p e es ef P q =
+    let b : SetBegins s p.place = rw e.0 at p.begins in
+    rw (set-verdict s k b e.2 e.1, set-objects s k b e.2) (rw (es, ef, e.0) at q)
 
 -- there is no such set
 pub no-set : (limit k : ℕ) (s : List ℕ) {n : ℕ} → set_verdict k s ≡ refused n → objects_verdict_within limit k s ≡ refused n

@@ -11,18 +11,18 @@ use lib.ListN.{length, take, drop, get_or, length-append}
 use lib.Seq.{take_at, drop-append_seam, take-append_seam}
 use Rattle.pgs_base.specs.Outcome.{Verdict, accepted, gives, laid, pick}
 use Rattle.pgs_base.proofs.Outcomes.{gave, gave-value}
-use Rattle.pgs_segment.specs.OneSegment.{segment_type}
+use Rattle.pgs_segment.specs.OneSegment.{segment_type, used_by}
 use Rattle.pgs_set.proofs.Choices.{pick_first}
 use Rattle.pgs_reassembly.proofs.FragmentLaws.{data-within, data-part}
 use Rattle.pgs_reassembly.proofs.ListingLaws.{record-count}
-use Rattle.pgs_reassembly.proofs.ObjectLaws.{Begins, AllBegin, all-begin, piece-here}
+use Rattle.pgs_reassembly.proofs.ObjectLaws.{Begins, AllBegin, all-begin, begin-fragments, piece-here}
 use Rattle.pgs_reassembly.specs.Objects.{Fragment, Chain, fragment_at, fragments_from, fragments_of, chains_of, joined, data_of, data_place, objects_of}
 use Rattle.pgs_set.specs.Sets.{no_set, is_pcs, through_end, sets_from, sets_of}
 use Rattle.pgs_reassembly.specs.Reassembly.{any_more, copied, copied_data, joined_data, object_records}
 use Rattle.pgs_reassembly.specs.Reassembly.{object_records_from, row_of, object_rows, reassembly, Reassembled, part_of}
 use Rattle.pgs_reassembly.specs.Reassembly.{record_data, shown_by}
 use Rattle.pgs_reassembly.specs.declared.ObjectRecord.{ObjectRecord}
-use Rattle.pgs_set.specs.Walks.{pieces_at}
+use Rattle.pgs_set.specs.Walks.{pieces_at, SetBegins, set_at}
 
 -- how a part is taken
 
@@ -118,6 +118,12 @@ objects-begin k s = sets-begin s (pieces_at s 0) 0 k refl
 pub record-data : (k : ℕ) (s rest : List ℕ)
     → map (record_data s (joined_data (objects_of k s) ++ rest)) (object_records (objects_of k s)) ≡ map data_of (objects_of k s)
 record-data k s rest = shown-from s (objects_of k s) (objects-begin k s) [] rest
+
+-- the same of the set whose PCS stands at a place
+pub placed-data : (s : List ℕ) {at : ℕ} → SetBegins s at → (rest : List ℕ)
+    → let cs = chains_of (fragments_of (set_at s at)) in map (record_data s (joined_data cs ++ rest)) (object_records cs) ≡ map data_of cs
+placed-data s {at} b rest =
+    shown-from s (chains_of (fragments_of (set_at s at))) (rw (begin-fragments s b) (all-begin s (at + used_by (drop at s)))) [] rest
 
 -- a row shows what its record does
 pub row-data : (s x : List ℕ) (r : ObjectRecord) → shown_by s x (row_of r) ≡ record_data s x r

@@ -4,10 +4,9 @@
 use Rattle.std.specs.Prelude.{ℕ, ◌+◌, ◌-◌, Bool, true, false, List, [], ◌∷◌, ◌++◌, leb, ltb, eqb, length, Option, None, Some}
 use Rattle.pgs_base.specs.Outcome.{Verdict, accepted, refused, and_then, unless, pick}
 use Rattle.pgs_views.specs.Fragments.{fragment_of, is_first, is_last}
+pub use Rattle.pgs_views.specs.Kinds.{is_ods}
 use Rattle.pgs_ods.specs.OdsBody.{head_size, ods_of, ods_data}
 use Rattle.pgs_segment.specs.OneSegment.{segment_type, body_at}
-use Rattle.pgs_views.specs.declared.segment_type.SegmentType.{SegmentType}
-use Rattle.pgs_views.specs.declared.segment_type.SegmentType.TheVariants.{Pds, Ods, Pcs, Wds, End, Other}
 use Rattle.pgs_base.specs.declared.dimensions.Dimensions.{Dimensions}
 use Rattle.pgs_ods.specs.declared.ods.Ods as declared-ods
 use Rattle.pgs_set.specs.Sets.{DisplaySet, sets_of, set_number, set_count, sets_verdict}
@@ -17,14 +16,6 @@ pub record Fragment : Type 0 where
   pub place : ℕ
   pub ods : declared-ods.Ods
   pub bytes : List ℕ
-
-abbrev pub is_ods : SegmentType → Bool
-is_ods Ods = true
-is_ods Pcs = false
-is_ods Wds = false
-is_ods Pds = false
-is_ods End = false
-is_ods (Other v) = false
 
 -- the fragment in a segment at a place
 abbrev pub fragment_at : ℕ → List ℕ → Fragment
@@ -94,19 +85,18 @@ data_of c = joined (c.first ∷ c.further)
 abbrev pub declared_length : Chain → ℕ
 declared_length c = c.first.ods.object_data_length
 
-abbrev pub width_in : Option Dimensions → ℕ
-width_in None = 0
-width_in (Some d) = d.width
+abbrev pub size_in : Option Dimensions → Dimensions
+size_in None = record { width = 0; height = 0 }
+size_in (Some d) = d
 
-abbrev pub height_in : Option Dimensions → ℕ
-height_in None = 0
-height_in (Some d) = d.height
+abbrev pub object_size : Chain → Dimensions
+object_size c = size_in c.first.ods.dimensions
 
 abbrev pub width_of : Chain → ℕ
-width_of c = width_in c.first.ods.dimensions
+width_of c = (object_size c).width
 
 abbrev pub height_of : Chain → ℕ
-height_of c = height_in c.first.ods.dimensions
+height_of c = (object_size c).height
 
 abbrev pub version_of : Chain → ℕ
 version_of c = c.first.ods.object_version_number

@@ -4,7 +4,7 @@
 -- scratch, whichever holds it. Object records (id, version, width, height, holder, place, length) fill a caller's list."
 use Rattle.std.specs.Prelude.{ℕ, ◌+◌, ◌-◌, ◌≡◌, Bool, true, false, List, [], ◌∷◌, ◌++◌, map, leb, eqb, length, take, drop, get_or}
 use Rattle.pgs_base.specs.Outcome.{Verdict, Outcome, outcome_of, and_then, needing, laid, delivery, pick}
-use Rattle.pgs_reassembly.specs.Objects.{Fragment, Chain, object_id, version_of, width_of, height_of, data_of, data_place}
+use Rattle.pgs_reassembly.specs.Objects.{Fragment, Chain, object_id, version_of, object_size, data_of, data_place}
 use Rattle.pgs_reassembly.specs.declared.ObjectRecord.{ObjectRecord}
 
 abbrev pub any_more : List Fragment → Bool
@@ -30,8 +30,7 @@ object_record at c =
     record {
       id = object_id c;
       version = version_of c;
-      width = width_of c;
-      height = height_of c;
+      size = object_size c;
       copied = copied c;
       place = pick (copied c) at (data_place c.first);
       len = length (data_of c);
@@ -43,10 +42,7 @@ record_joined r = pick r.copied r.len 0
 
 -- a record as a row of a caller's list. The holder is 0 for the stream and 1 for the scratch
 abbrev pub row_of : ObjectRecord → List ℕ
-row_of r = r.id ∷ r.version ∷ r.width ∷ r.height ∷ pick r.copied 1 0 ∷ r.place ∷ r.len ∷ []
-
-abbrev pub object_row : ℕ → Chain → List ℕ
-object_row at c = row_of (object_record at c)
+row_of r = r.id ∷ r.version ∷ r.size.width ∷ r.size.height ∷ pick r.copied 1 0 ∷ r.place ∷ r.len ∷ []
 
 -- the records of objects, whose copied data stands in the scratch from a place on
 abbrev pub object_records_from : ℕ → List Chain → List ObjectRecord

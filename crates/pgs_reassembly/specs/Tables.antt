@@ -1,5 +1,5 @@
 -- The table of chains that finding objects keeps: a row for each chain, in first-seen order. Private contracts of
--- `pgs_object` cite this; those of its public functions cite `Objects` and `Reassembly`, and those that take an open set cite `fragments_left`.
+-- `pgs_object` cite this; those of its public functions cite `Objects` and `Reassembly`, and those that take an open set cite `open_fragments`.
 use Rattle.std.specs.Prelude.{ℕ, suc, ◌+◌, ◌-◌, ◌≤◌, ◌≡◌, Bool, true, false, List, [], ◌∷◌, ◌++◌, map, leb, eqb, length, drop}
 use Rattle.std.specs.Prelude.{Option, None, Some}
 use Rattle.std.specs.Option.{option_map}
@@ -7,11 +7,12 @@ use Rattle.pgs_base.specs.Outcome.{Verdict, accepted, and_then, unless, pick}
 use Rattle.pgs_views.specs.Kinds.{type_of}
 use Rattle.pgs_views.specs.Fragments.{fragment_of, is_first, is_last}
 use Rattle.pgs_reassembly.specs.Objects.{Fragment, is_ods, fragment_at, fragments_from, Chain, ChainState, unseen, continuing, complete}
-use Rattle.pgs_reassembly.specs.Objects.{data_place, width_in, height_in, ended, data_of, first_verdict, next_verdict, object_limit}
+use Rattle.pgs_reassembly.specs.Objects.{data_place, size_in, ended, data_of, first_verdict, next_verdict, object_limit}
 use Rattle.pgs_reassembly.specs.Objects.{joined, with_id}
 use Rattle.pgs_reassembly.specs.Reassembly.{copied, joined_data}
 use Rattle.pgs_set.specs.Sets.{through_end}
 use Rattle.pgs_set.specs.Walks.{pieces_at, InSet}
+use Rattle.pgs_set.specs.declared.open_set.OpenSet.{OpenSet}
 use Rattle.pgs_stream.specs.declared.segments.PlacedSegment.{PlacedSegment}
 use Rattle.pgs_reassembly.specs.declared.ChainRow.{ChainRow}
 use Rattle.pgs_reassembly.specs.declared.FragmentNumbers.{FragmentNumbers}
@@ -20,6 +21,10 @@ use Rattle.pgs_reassembly.specs.declared.ObjectRecord.{ObjectRecord}
 -- the fragments from a place on in the set that is open there
 abbrev pub fragments_left : List ℕ → ℕ → List Fragment
 fragments_left s at = fragments_from at (through_end (pieces_at s at))
+
+-- those of an open set
+abbrev pub open_fragments : OpenSet → List Fragment
+open_fragments set = fragments_left set.stream.now set.from
 
 -- the fragment in a segment of a stream, and those in several segments
 abbrev pub fragment_in : List ℕ → PlacedSegment → Fragment
@@ -127,8 +132,7 @@ record_at at r =
     record {
       id = row_id r;
       version = r.first.ods.object_version_number;
-      width = width_in r.first.ods.dimensions;
-      height = height_in r.first.ods.dimensions;
+      size = size_in r.first.ods.dimensions;
       copied = r.copied;
       place = pick r.copied at r.first.start;
       len = r.len;

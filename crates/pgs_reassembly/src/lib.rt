@@ -3,8 +3,10 @@
 #![tactic(auto)]
 
 ghost use Rattle.std.specs.Prelude.{◌≡◌};
-ghost use Rattle.pgs_reassembly.specs.Reassembly.{part_of, record_data, record_joined};
+ghost use Rattle.pgs_reassembly.specs.Reassembly.{part_of, record_data, record_joined, row_of};
 
+use pgs_base::dimensions::Dimensions;
+use pgs_base::record::FromRecord;
 use pgs_ods::ods::Ods;
 
 // The numbers of a fragment, and where its data stands.
@@ -14,6 +16,7 @@ pub struct FragmentNumbers {
     pub place: usize,
     pub ods: Ods,
     // the place of its data in the stream
+    // Stays a place and a length: a slice does not give its place back, and an object's record hands over the place.
     pub start: usize,
     // the length of its data
     pub len: usize,
@@ -26,6 +29,7 @@ pub struct ChainRow {
     // whether the last fragment was taken
     pub closed: bool,
     // whether it has several fragments, so that its data is copied
+    // Stays a bool: an object's record takes it over as it is.
     pub copied: bool,
     // the length of its joined data
     pub len: usize,
@@ -36,14 +40,33 @@ pub struct ChainRow {
 pub struct ObjectRecord {
     pub id: u16,
     pub version: u8,
-    pub width: u16,
-    pub height: u16,
+    // of its bitmap
+    pub size: Dimensions,
     // whether its data is copied to the scratch; else it stands in the stream
+    // Stays a bool: an enum of the two holders, each with its place, would be turned back into C's 0 or 1 and a place.
     pub copied: bool,
     // the place of its joined data there
     pub place: usize,
     // the length of its joined data
     pub len: usize,
+}
+
+// As a row of cells: id, version, width, height, 1 for the scratch or 0 for the stream, place, length.
+// Stays a row of numbers: the C interface lends such lists.
+impl FromRecord<ObjectRecord> for [u64; 7] {
+    ghost from_record = { row_of };
+
+    fn from_record(item: ObjectRecord) -> [u64; 7] {
+        [
+            u64::from(item.id),
+            u64::from(item.version),
+            u64::from(item.size.width),
+            u64::from(item.size.height),
+            u64::from(item.copied),
+            item.place as u64,
+            item.len as u64,
+        ]
+    }
 }
 
 // The part of `s` from `at`, of `n` bytes; empty where it would pass the end.

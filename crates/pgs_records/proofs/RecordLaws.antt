@@ -7,11 +7,14 @@ use Prim.Native.Nat.{ℕ, zero, suc, ◌+◌, ◌-◌, ◌*◌, ◌≤◌, ◌<�
 use native.Mathlib.Omega.{arith}
 use borrow.Author.Tests.{leb-true, leb-false, le-leb, lt-leb}
 use lib.Dec.{leb}
-use lib.ListN.{length, take, drop, set, length-drop, length-map}
+use lib.ListN.{length, take, drop, set, get_or, length-drop, length-map}
+use lib.Seq.{drop-drop}
+use Rattle.pgs_base.specs.Bytes.{num}
 use Rattle.pgs_base.specs.Outcome.{Verdict, Delivered, pick, gives, refuses, outcome_of, unless}
 use Rattle.pgs_base.proofs.Decisions.{leb-same}
 use Rattle.pgs_base.proofs.Outcomes.{delivered, delivered-refusal, gives_as, refuses-as}
 use Rattle.pgs_base.proofs.Lists.{to_end}
+use Rattle.pgs_base.proofs.Bytes.{num-byte}
 use Rattle.pgs_base.proofs.Front.{Front, stored, filled-whole}
 use Rattle.pgs_records.specs.Records.{records, records_fit, records_size}
 
@@ -83,8 +86,9 @@ module _ (size : List ℕ → ℕ) (l : List ℕ) (n : ℕ) where
         passed = ap (λ (k : ℕ). records_fit size k rest) (one_more h) ∙ simp (le-leb (size rest) (length rest) q)
 
     -- the next record is whole: its k bytes are passed
-    pub walk-on : {k : ℕ} → i < n → k ≡ size rest → k ≤ length rest → Walking size l n (i + 1) (take (length rest - k) (drop k rest))
-    walk-on {k} h e q = rw (to_end k rest, e) (passed_one h (rw (← e) q))
+    pub walk-on : {k : ℕ} {next : List ℕ} → i < n → k ≡ size rest → k ≤ length rest → next ≡ take (length rest - k) (drop k rest)
+        → Walking size l n (i + 1) next
+    walk-on {k} h e q w = rw (w, to_end k rest, e) (passed_one h (rw (← e) q))
 
 -- i of n records are stored, and the others stand in `rest`
 pub record Filling {A : Type 0} (f : List ℕ → A) (size : List ℕ → ℕ) (n : ℕ) (whole start now : List A) (i : ℕ) (rest : List ℕ) : Type 0 where
@@ -120,6 +124,15 @@ pub stored-rows : {A B : Type 0} (g : A → B) (f : List ℕ → A) (size : List
 stored-rows g f size l {start} s =
     let r = λ (t : List ℕ). g (f t) in
     filled-whole s.front (omega (arith, s.front.same)) (records-length r size (length start) l) ∙ sym (map-records g f size (length start) l)
+
+-- the byte at `at` of a body, and what stands behind it, by the part that begins there
+module _ (at : ℕ) (b : List ℕ) {part : List ℕ} (e : part ≡ take (length b - at) (drop at b)) where
+  pub counted-rest : take (length part - 1) (drop 1 part) ≡ drop (at + 1) b
+  counted-rest = to_end 1 part ∙ ap (drop 1) (e ∙ to_end at b) ∙ drop-drop 1 at b
+
+  pub counted-number : 1 ≤ length part → get_or part 0 0 ≡ num 1 at b
+  unfolding num
+  counted-number h = num-byte 0 part (omega arith) ∙ ap (num 1 0) (e ∙ to_end at b)
 
 -- records of a fixed size k: whether they fit, and the bytes that they take
 module _ (k n : ℕ) (l : List ℕ) where

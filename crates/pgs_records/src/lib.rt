@@ -4,7 +4,8 @@
 pub mod list;
 
 // The part of a body that holds its records (placements, windows, entries) or its data bytes.
-#[derive(Clone, Copy, Debug, PartialEq, Eq)]
+// Stays a place and a length: C's calls hand over places, and a slice does not give its place back.
+#[derive(Clone, Copy, Debug, Default, PartialEq, Eq)]
 pub struct BodyList {
     // how many records; 0 where the part holds data bytes
     // Stays a number: the kind of the segment says whether there are records, and an Option would say it again

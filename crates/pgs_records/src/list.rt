@@ -1,12 +1,11 @@
 // The records of a body's list, tested and stored as rows in a caller's list.
-ghost use Rattle.std.specs.Prelude.{◌≡◌, ◌≤◌, ℕ, List, true, length, map};
+ghost use Rattle.std.specs.Prelude.{◌≡◌, ◌+◌, ℕ, List, true, length, drop, leb, map, IfOk};
 ghost use Rattle.pgs_base.specs.Bytes.{num};
-ghost use Rattle.pgs_base.specs.Outcome.{outcome, outcome_of, unless, laid, accepted, Delivered};
+ghost use Rattle.pgs_base.specs.Outcome.{outcome, outcome_of, verdict_of, unless, Delivered};
 ghost use Rattle.pgs_records.specs.Records.{records, records_fit, records_size, counted_verdict, counted_list, counted_records};
 
 use crate::BodyList;
 use pgs_base::refusal::Refusal;
-use pgs_fields::u8_at;
 
 // A record of a body's list: a placement, a window or an entry.
 pub trait ListRecord: Copy {
@@ -28,6 +27,8 @@ pub trait ListRecord: Copy {
     fn read(l: &[u8]) -> Self
         ensures { result ≡ value l.now };
 
+    // Stays beside `FromRecord` of pgs_base: each record has this one row, which the C interface lends; by `FromRecord`, all that reads a list
+    // would take the row as a second type, to spare this method and its definition.
     fn to_row(self) -> Self::Row
         ensures { result ≡ to_row self };
 
@@ -37,17 +38,14 @@ pub trait ListRecord: Copy {
     {
         let mut rest = l;
         for _ in 0..n {
-            let size = Self::size(rest);
-            if rest.len() < size {
-                return Err(Refusal::FieldPastEnd);
-            }
-            rest = &rest[size..];
+            rest = rest.get(Self::size(rest)..).ok_or(Refusal::FieldPastEnd)?;
         }
         Ok(l.len() - rest.len())
     }
 }
 
 // The same for records that all take `size` bytes.
+// Stays called by two types: an impl for all such records would want a second trait with each other member of `ListRecord`, to spare two lines a type.
 pub fn walk_fixed(size: usize, l: &[u8], n: usize) -> Result<usize, Refusal>
     ensures { outcome result ≡ outcome_of (unless 4 (records_fit (λ _. size) n l.now)) (records_size (λ _. size) n l.now) }
 {
@@ -58,6 +56,8 @@ pub fn walk_fixed(size: usize, l: &[u8], n: usize) -> Result<usize, Refusal>
 }
 
 // Stores whole records, one in each row.
+// Stays a loop beside `Placements` of pgs_pcs, whose list may be cut: by one iterator for both, which tests each step, 51 million entries take
+// 0.17 s, not 0.03, as many windows 0.20, not 0.08, and as many placements 0.43, not 0.38.
 fn fill_rows<R: ListRecord>(l: &[u8], rows: &mut [R::Row])
     requires { records_fit R.size (length rows.old) l.now ≡ true }
     ensures { rows.new ≡ map R.to_row (records R.value R.size (length rows.old) l.now) }
@@ -81,20 +81,31 @@ pub fn read_list<R: ListRecord>(l: &[u8], n: usize, list: &mut [R::Row]) -> Resu
     Ok(n)
 }
 
-// Whether the records of a body are whole, whose count is the byte at `at`, and where they stand.
+// The count of a body's records, which is the byte at `at`, and what stands behind it.
+fn counted(body: &[u8], at: usize) -> Result<(usize, &[u8]), Refusal>
+    ensures verdict { verdict_of result ≡ unless 4 (leb (at + 1) (length body.now)) }
+    ensures parts { IfOk result (λ p. (p.0 ≡ num 1 at body.now) × (p.1.now ≡ drop (at + 1) body.now)) }
+{
+    match body.get(at..) {
+        Some([count, rest @ ..]) => Ok((usize::from(*count), rest)),
+        _ => Err(Refusal::FieldPastEnd),
+    }
+}
+
+// Whether these records are whole, and where they stand.
 pub fn check_counted<R: ListRecord>(body: &[u8], at: usize) -> Result<BodyList, Refusal>
     ensures { outcome result ≡ outcome_of (counted_verdict R.size at body.now) (counted_list R.size at body.now) }
 {
-    if body.len() <= at {
-        return Err(Refusal::FieldPastEnd);
-    }
-    let start = at + 1;
-    let count = usize::from(u8_at(body, at));
-    let len = R::walk(&body[start..], count)?;
-    Ok(BodyList { count, start, len })
+    let (count, rest) = counted(body, at)?;
+    let len = R::walk(rest, count)?;
+    Ok(BodyList {
+        count,
+        start: at + 1,
+        len,
+    })
 }
 
-// Reads these records into the caller's list, from the front, and answers how many.
+// Reads them into the caller's list, from the front, and answers how many.
 pub fn read_counted<R: ListRecord>(
     body: &[u8],
     at: usize,
@@ -103,9 +114,6 @@ pub fn read_counted<R: ListRecord>(
     ensures { Delivered (counted_verdict R.size at body.now) (num 1 at body.now) (map R.to_row (counted_records R.value R.size at body.now))
         list.old list.new (outcome result) }
 {
-    if body.len() <= at {
-        return Err(Refusal::FieldPastEnd);
-    }
-    let count = usize::from(u8_at(body, at));
-    read_list::<R>(&body[at + 1..], count, list)
+    let (count, rest) = counted(body, at)?;
+    read_list::<R>(rest, count, list)
 }

@@ -1,23 +1,23 @@
 // Painting a display set whose objects are listed: 34, the joined bytes, 24 to 33, then what cannot fail.
-ghost use Rattle.std.specs.Prelude.{◌≡◌, ◌≤◌, length};
+ghost use Rattle.std.specs.Prelude.{◌≡◌, ◌+◌, ◌≤◌, ◌<◌, ◌^◌, length, sum_by};
 ghost use Rattle.pgs_base.specs.Bytes.{Bytes};
-ghost use Rattle.pgs_base.specs.Outcome.{outcome, verdict_of};
+ghost use Rattle.pgs_base.specs.Outcome.{accepted, outcome, verdict_of};
 ghost use Rattle.pgs_color.specs.Bytes.{rgb_of};
 ghost use Rattle.pgs_pcs.specs.Placements.{placements_left};
-ghost use Rattle.pgs_reassembly.specs.Objects.{objects_verdict};
 ghost use Rattle.pgs_reassembly.specs.Reassembly.{joined_data};
+ghost use Rattle.pgs_rendering.specs.Records.{record_area, records_joined};
 ghost use Rattle.pgs_rendering.specs.Rendering.{
   Rendered,
   answer_of,
   composition_of,
   placements_in,
 };
-ghost use Rattle.pgs_rendering.specs.Steps.{Listed, Composed, JoinedAndRead, Ready, Showing};
+ghost use Rattle.pgs_rendering.specs.Steps.{Listed, JoinedAndRead, Ready, Showing};
+ghost use Rattle.pgs_segment.specs.OneSegment.{body_at};
+ghost use Rattle.pgs_set.specs.Walks.{set_at};
 
-use crate::objects::{check_content, joined_total, objects_fit};
 use crate::painting::{StoredBitmaps, paint_placements};
 use crate::palette::color_table;
-use crate::storing::store_bitmaps;
 use pgs_base::dimensions::Dimensions;
 use pgs_base::refusal::Refusal;
 use pgs_object::object::join_in_set;
@@ -26,70 +26,74 @@ use pgs_pcs::placements::Placements;
 use pgs_plane::plane::{clear_plane, plane_bytes};
 use pgs_reassembly::ObjectRecord;
 use pgs_rendering::Shown;
-use pgs_set::open_set::OpenSet;
+use pgs_set::open_set::PlacedSet;
 
-// A display set that 1 to 23 and 36 do not refuse.
+// A display set at its place, which 16 to 23 do not refuse, with the records of its objects.
 #[derive(Clone, Copy)]
 pub(crate) struct ListedSet<'a> {
-    // its number in the stream, which the contracts name
-    pub(crate) number: usize,
+    pub(crate) set: PlacedSet<'a>,
     // of its objects
     pub(crate) records: &'a [ObjectRecord],
-    // of its PCS
-    pub(crate) body: &'a [u8],
-    pub(crate) pts: u32,
-    // its segments after the PCS
-    pub(crate) others: OpenSet<'a>,
-    pub(crate) ghost bytes: { Bytes others.stream.now },
-    pub(crate) ghost listed: { Listed number others.stream.now records.now },
-    pub(crate) ghost composed: { Composed number others.stream.now body.now pts others.from },
+    pub(crate) ghost bytes: { Bytes set.stream.now },
+    pub(crate) ghost listed: { Listed (set_at set.stream.now set.place) records.now },
+    // what their joined data and their bitmaps take together, a `usize` holds
+    pub(crate) ghost low: { records_joined records.now + sum_by record_area records.now < 2 ^ 64 },
 }
 
 impl<'a> ListedSet<'a> {
     ghost use Rattle.pgs_render.specs.ListedSets.{display_set, its_objects};
 
+    // The body of its PCS.
+    fn body(self) -> &'a [u8]
+        ensures { result.now ≡ body_at (display_set self.entry).opening }
+    {
+        let (pcs, _) = self.set.split_first();
+        pcs.body(self.set.stream)
+    }
+
     fn composition(self) -> Pcs
         ensures { result ≡ composition_of (display_set self.entry) }
     {
-        Pcs::numbers(self.body)
+        Pcs::numbers(self.body())
     }
 
-    fn placements(self) -> Placements<'a>
+    pub(crate) fn placements(self) -> Placements<'a>
         ensures { placements_left result ≡ placements_in (display_set self.entry) }
     {
-        Placements::of_body(self.body)
+        Placements::of_body(self.body())
     }
 
     // The size of its plane, and the PTS of its PCS.
     fn answer(self) -> Shown
         ensures { result ≡ answer_of (display_set self.entry) }
     {
-        let pcs = self.composition();
+        let numbers = self.composition();
+        let (pcs, _) = self.set.split_first();
         Shown {
             size: Dimensions {
-                width: pcs.width,
-                height: pcs.height,
+                width: numbers.width,
+                height: numbers.height,
             },
-            pts: self.pts,
+            pts: pcs.header.pts,
         }
     }
 
     // Joins the data of the objects, for which there is room, then tests 24 to 33.
     fn join_and_read(self, scratch: &mut [u8]) -> Result<(), Refusal>
         requires { length (joined_data (its_objects self)) ≤ length scratch.old }
-        ensures { JoinedAndRead self.entry.number self.entry.others.stream.now scratch.old scratch.new (verdict_of result) }
+        ensures { JoinedAndRead (display_set self.entry) scratch.old scratch.new (verdict_of result) }
     {
-        let _ = join_in_set(self.others, scratch);
-        check_content(self.others.stream, scratch, self.records, self.placements())
+        let _ = join_in_set(self.set.open(), scratch);
+        self.check_content(scratch)
     }
 
     // Stores the bitmaps after the `joined` bytes of joined data, and paints: nothing here can fail.
     fn show(self, joined: usize, scratch: &mut [u8], plane: &mut [u8])
-        requires { Ready self.number self.others.stream.now joined scratch.old plane.old }
-        ensures { Showing self.entry.number self.entry.others.stream.now scratch.old scratch.new plane.old plane.new }
+        requires { Ready (display_set self) joined scratch.old plane.old }
+        ensures { Showing (display_set self.entry) scratch.old scratch.new plane.old plane.new }
     {
-        store_bitmaps(self.others.stream, self.records, joined, scratch);
-        let table = color_table(self.others, self.composition().palette_id);
+        self.store_bitmaps(joined, scratch);
+        let table = color_table(self.set.open(), self.composition().palette_id);
         let size = self.answer().size;
         let _ = clear_plane(size, plane);
         let bitmaps = StoredBitmaps {
@@ -102,11 +106,11 @@ impl<'a> ListedSet<'a> {
 
     // Paints it.
     pub(crate) fn render(self, scratch: &mut [u8], plane: &mut [u8]) -> Result<Shown, Refusal>
-        ensures { Rendered rgb_of (objects_verdict self.entry.number self.entry.others.stream.now)
-            (display_set self.entry) (its_objects self.entry)
+        ensures { Rendered rgb_of accepted (display_set self.entry) (its_objects self.entry)
             scratch.old scratch.new plane.old plane.new (outcome result) }
     {
-        if !objects_fit(self.records, scratch.len()) {
+        let joined = self.joined_total();
+        if scratch.len() < joined + self.bitmaps_total() {
             return Err(Refusal::BufferTooSmall);
         }
         let shown = self.answer();
@@ -114,7 +118,7 @@ impl<'a> ListedSet<'a> {
             return Err(Refusal::BufferTooSmall);
         }
         self.join_and_read(scratch)?;
-        self.show(joined_total(self.records), scratch, plane);
+        self.show(joined, scratch, plane);
         Ok(shown)
     }
 }

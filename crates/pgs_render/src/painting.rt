@@ -5,7 +5,6 @@ ghost use Rattle.pgs_plane.specs.Pictures.{painted_all};
 ghost use Rattle.pgs_pcs.specs.Placements.{placements_left};
 ghost use Rattle.pgs_rendering.specs.Records.{all_present, bitmap_at, look_at, records_area};
 
-use crate::objects::size;
 use pgs_base::dimensions::Dimensions;
 use pgs_paint::paint::{Image, paint_placement};
 use pgs_palette::palette::TABLE_LEN;
@@ -30,7 +29,7 @@ impl<'a> StoredBitmaps<'a> {
     {
         let mut at = self.from;
         for record in self.records {
-            let size = size(*record);
+            let size = record.size;
             let end = at + size.area();
             if record.id == id {
                 let indices = &self.scratch[at..end];

@@ -1,38 +1,29 @@
 // The palette of a display set, as a table of colours: 01, 'Plane'.
 ghost use Rattle.std.specs.Prelude.{◌≡◌};
-ghost use Rattle.pgs_base.specs.Outcome.{accepted};
-ghost use Rattle.pgs_pds.specs.PdsBody.{pds_verdict};
 ghost use Rattle.pgs_color.specs.Bytes.{rgb_of};
 ghost use Rattle.pgs_palette.specs.Table.{laid};
 ghost use Rattle.pgs_set.specs.Sets.{through_end};
 ghost use Rattle.pgs_set.specs.Walks.{pieces_at};
 ghost use Rattle.pgs_rendering.specs.Palettes.{
   empty_table,
-  is_pds,
   entries_named,
   entries_among,
 };
 
 use pgs_palette::palette::{TABLE_LEN, apply};
+use pgs_pds::pds::Pds;
 use pgs_set::open_set::OpenSet;
-use pgs_views::segment_type::SegmentType;
-
-// Whether a segment has a palette.
-// Stays a function: `matches!` in the caller, or a derived `==`, would leave the six kinds to the caller's proof; here the contract says
-// `is_pds`.
-fn is_pds(kind: SegmentType) -> bool
-    ensures { result ≡ is_pds kind }
-{
-    matches!(kind, SegmentType::Pds)
-}
 
 // Lays the entries of a palette segment over a table, if the PCS names its palette.
 fn lay_palette(body: &[u8], named: u8, table: &mut [u8; TABLE_LEN])
-    requires { pds_verdict body.now ≡ accepted }
     ensures { table.new ≡ laid rgb_of (entries_named named body.now) table.old }
 {
-    let (entries, _) = body[2..].as_chunks::<5>();
-    let _ = apply(entries, body[0], named, table);
+    let _ = apply(
+        Pds::entries(body),
+        Pds::numbers(body).palette_id,
+        named,
+        table,
+    );
 }
 
 // The table of a set, for the palette that its PCS names.
@@ -41,7 +32,7 @@ pub(crate) fn color_table(set: OpenSet<'_>, named: u8) -> [u8; TABLE_LEN]
 {
     let mut table = [0; TABLE_LEN];
     for segment in set.segments() {
-        if is_pds(segment.header.kind()) {
+        if segment.header.kind().is_pds() {
             lay_palette(segment.body(set.stream), named, &mut table);
         }
     }

@@ -11,28 +11,19 @@ use pgs_base::refusal::Refusal;
 use pgs_object::object::{OBJECT_LIMIT, list_in_set};
 use pgs_reassembly::ObjectRecord;
 use pgs_rendering::Shown;
-use pgs_set::open_set::PlacedSet;
-use pgs_set::set::find_set;
+use pgs_set::set::placed_set;
 
 // Paints set number `set` of a stream: the joined data and the bitmaps fill the scratch, the pixels the plane, each from the front.
 pub fn render(s: &[u8], set: usize, scratch: &mut [u8], plane: &mut [u8]) -> Result<Shown, Refusal>
     ensures { Rendered rgb_of (objects_verdict set s.now) (set_number set s.now) (objects_of set s.now)
         scratch.old scratch.new plane.old plane.new (outcome result) }
 {
-    let found = find_set(s, set)?;
-    let placed = PlacedSet {
-        stream: s,
-        place: found.place,
-    };
-    let (pcs, others) = placed.split_first();
+    let set = placed_set(s, set)?;
     let mut list = [ObjectRecord::default(); OBJECT_LIMIT];
-    let n = list_in_set(others, &mut list)?;
+    let n = list_in_set(set.open(), &mut list)?;
     let listed = ListedSet {
-        number: set,
+        set,
         records: &list[..n],
-        body: pcs.body(s),
-        pts: found.pts,
-        others,
     };
     listed.render(scratch, plane)
 }

@@ -10,7 +10,7 @@ ghost use Rattle.pgs_rendering.specs.Records.{
   records_bitmaps,
 };
 
-use crate::objects::area;
+use crate::listed_set::ListedSet;
 use pgs_bitmap_store::bitmap::store_rle;
 use pgs_bitmap_within::within::store_within;
 use pgs_reassembly::ObjectRecord;
@@ -23,19 +23,24 @@ fn store_bitmap(s: &[u8], object: ObjectRecord, at: usize, scratch: &mut [u8])
     if object.copied {
         store_within(scratch, object.place, object.len, at);
     } else {
-        let end = at + area(object);
+        let end = at + object.size.area();
         store_rle(object.data(s, &[]), &mut scratch[at..end]);
     }
 }
 
-// Stores the bitmaps one after another from `from` on.
-pub(crate) fn store_bitmaps(s: &[u8], records: &[ObjectRecord], from: usize, scratch: &mut [u8])
-    requires { AllStorable s.now records.now from scratch.old }
-    ensures { scratch.new ≡ take from scratch.old ++ (records_bitmaps s.now scratch.old records.now ++ drop (from + records_area records.now) scratch.old) }
-{
-    let mut at = from;
-    for record in records {
-        store_bitmap(s, *record, at, scratch);
-        at += area(*record);
+impl<'a> ListedSet<'a> {
+    // Stores the bitmaps one after another from `from` on.
+    // Stays a place: of an output whose parts are taken off by `split_off_mut`, std does not say what the whole then holds; and the data is
+    // read from the same memory.
+    pub(crate) fn store_bitmaps(self, from: usize, scratch: &mut [u8])
+        requires { AllStorable self.set.stream.now self.records.now from scratch.old }
+        ensures { scratch.new ≡ take from scratch.old ++ (records_bitmaps self.entry.set.stream.now scratch.old self.entry.records.now
+            ++ drop (from + records_area self.entry.records.now) scratch.old) }
+    {
+        let mut at = from;
+        for record in self.records {
+            store_bitmap(self.set.stream, *record, at, scratch);
+            at += record.size.area();
+        }
     }
 }

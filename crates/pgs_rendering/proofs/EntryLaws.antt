@@ -30,7 +30,7 @@ num-one at l h = go (drop at l) (bytes_drop at l h)
     go [] b = omega arith
     go (x ∷ t) b = omega (arith, b 0)
 
-through-bytes : (xs : List (List ℕ)) → Each Bytes xs → Each Bytes (through_end xs)
+pub through-bytes : (xs : List (List ℕ)) → Each Bytes xs → Each Bytes (through_end xs)
 through-bytes [] h = tt
 through-bytes (x ∷ xs) h = (h.0, go (is_end (segment_type x)) (through-bytes xs h.1))
   where

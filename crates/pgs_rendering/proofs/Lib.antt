@@ -6,5 +6,6 @@ pub mod StoreLaws
 pub mod ObjectLaws
 pub mod ColorLaws
 pub mod EntryLaws
+pub mod AreaLaws
 pub mod RenderLaws
 pub mod OpeningLaws

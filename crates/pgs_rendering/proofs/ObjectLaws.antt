@@ -8,14 +8,13 @@ use borrow.Author.Tests.{ltb-true}
 use lib.Dec.{ltb}
 use Rattle.std.specs.Prelude.{All}
 use lib.ListN.{length, length-append}
-use Rattle.pgs_base.specs.Outcome.{accepted, unless, pick}
+use Rattle.pgs_base.specs.Outcome.{accepted, pick}
 use Rattle.pgs_base.proofs.Outcomes.{first-accepts, second_holds, holds}
 use Rattle.pgs_bitmap_check.specs.Bitmap.{bitmap_of}
 use Rattle.pgs_reassembly.specs.Objects.{Fragment, Chain, ChainState, unseen, continuing, complete, id_of, opens_chain}
 use Rattle.pgs_reassembly.specs.Objects.{with_id, chains_of, width_of, height_of, data_of, data_place, state_of}
 use Rattle.pgs_reassembly.specs.Objects.{first_verdict, next_verdict, fragment_verdict, verdict_after, chains_verdict}
-use Rattle.pgs_reassembly.specs.Objects.{fragments_verdict, fragments_of, object_limit, objects_of, objects_verdict}
-use Rattle.pgs_set.specs.Sets.{set_number, sets_verdict, set_count}
+use Rattle.pgs_reassembly.specs.Objects.{fragments_verdict}
 use Rattle.pgs_reassembly.specs.Reassembly.{copied, copied_data, joined_data, object_record, object_records_from, record_data}
 use Rattle.pgs_rendering.specs.Images.{area_of, bitmaps_of}
 use Rattle.pgs_rendering.specs.Records.{records_area, records_bitmaps, Held}
@@ -46,7 +45,7 @@ records-held at end (c ∷ cs) h zero d m = one-held at end c (omega (arith, len
 records-held at end (c ∷ cs) h (suc i) d m =
     records-held (at + length (copied_data c)) end cs (omega (arith, length-append (copied_data c) (joined_data cs))) i d (omega arith)
 
--- a set that is accepted has no more objects than the limit
+-- one more fragment adds at most one object
 chains-snoc : (fs : List Fragment) (f : Fragment) → length (chains_of (fs ++ (f ∷ []))) ≡ length (chains_of fs) + pick {A = ℕ} (opens_chain f) 1 0
 chains-snoc [] f = go (opens_chain f) (record { first = f; further = with_id (id_of f) [] })
   where
@@ -85,11 +84,6 @@ few-after limit (f ∷ fs) earlier e h =
     more true q continuing a = let z : ◌≡◌ {A = ℕ} 0 1 = cc in absurd (omega arith)
     more true q complete a = let z : ◌≡◌ {A = ℕ} 0 1 = cc in absurd (omega arith)
 
-few-objects : (limit : ℕ) (fs : List Fragment) → fragments_verdict limit fs ≡ accepted → length (chains_of fs) ≤ limit
+-- a set whose objects are not refused has no more of them than the limit
+pub few-objects : (limit : ℕ) (fs : List Fragment) → fragments_verdict limit fs ≡ accepted → length (chains_of fs) ≤ limit
 few-objects limit fs e = few-after limit fs [] (first-accepts (verdict_after limit [] fs) (chains_verdict (chains_of fs)) e) (omega arith)
-
--- a set that is not refused has no more objects than the limit
-pub few-accepted : (k : ℕ) (s : List ℕ) → objects_verdict k s ≡ accepted → length (objects_of k s) ≤ object_limit
-unfolding objects_of
-few-accepted k s e =
-    few-objects object_limit (fragments_of (set_number k s)) (second_holds (unless 36 (ltb k (set_count s))) _ (second_holds (sets_verdict s) _ e))

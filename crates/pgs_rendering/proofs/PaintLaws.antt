@@ -23,7 +23,7 @@ lent-part place area l = let e : place + area - place ≡ area = omega arith in 
 
 -- the bitmap of a record that stands at a place
 abbrev pub image_at : List ℕ → ℕ → ObjectRecord → Image
-image_at scratch at r = image_of r.width r.height (take (record_area r) (drop at scratch))
+image_at scratch at r = image_of r.size.width r.size.height (take (record_area r) (drop at scratch))
 
 -- the ids of i records are others, and the bitmap of the next one stands at `at`
 pub record Seeing (rs : List ObjectRecord) (scratch : List ℕ) (from id i at : ℕ) : Type 0 where

@@ -1,26 +1,21 @@
 -- The table of a set: the entries of its palettes laid one after another. Assumes nothing.
 use mathlib.Core.Path.{◌≡◌, refl, sym, ap, ◌∙◌}
 use mathlib.Core.Bool.{Bool, true}
-use mathlib.Core.List.{List, [], ◌∷◌, ◌++◌, map}
-use Prim.Native.Nat.{ℕ, zero, suc, ◌+◌, ◌-◌, ◌*◌, ◌/◌, ◌≤◌}
+use mathlib.Core.List.{List, [], ◌∷◌, ◌++◌}
+use Prim.Native.Nat.{ℕ, ◌+◌, ◌-◌, ◌≤◌}
 use native.Mathlib.Omega.{arith}
 use borrow.Author.Tests.{le-leb}
-use lib.ListN.{length, take, drop, length-drop}
+use lib.ListN.{length, take, drop}
 use Rattle.pgs_base.specs.Bytes.{num}
 use Rattle.pgs_views.specs.Kinds.{type_of}
 use Rattle.pgs_base.specs.Outcome.{Verdict, accepted, pick}
-use Rattle.pgs_base.proofs.Bytes.{num-byte}
-use Rattle.pgs_base.proofs.Lists.{to_end}
-use Rattle.std.specs.Simd.{first_chunks}
 use Rattle.pgs_base.proofs.Outcomes.{first-accepts}
 use Rattle.pgs_segment.specs.Header.{header_fields}
 use Rattle.pgs_segment.specs.OneSegment.{segment_type, segment_verdict, used_by, body_at}
-use Rattle.pgs_pds.specs.PdsBody as pds
-use Rattle.pgs_records.specs.Records.{records}
 use Rattle.pgs_stream.specs.Stream.{step_verdict}
 use Rattle.pgs_stream.proofs.ReadingLaws.{own_body}
 use Rattle.pgs_color.specs.Bytes.{rgb_of}
-use Rattle.pgs_palette.specs.Palette.{Entry, entry_of, applying}
+use Rattle.pgs_palette.specs.Palette.{Entry, applying}
 use Rattle.pgs_palette.specs.Table.{laid, Updates}
 use Rattle.pgs_palette.proofs.Laying.{laid_none, laid-length, laid-append}
 use Rattle.pgs_set.specs.Sets.{is_end, through_end}
@@ -37,42 +32,6 @@ use Rattle.pgs_rendering.specs.Palettes.{is_pds, entries_in, entries_named, entr
 -- a call that changed a table that is long enough
 pub changed : {change : List ℕ → List ℕ} {v : Verdict} {t t' : List ℕ} → 1024 ≤ length t → Updates change v t t' → t' ≡ change t
 changed {change} {t = t} h u = u.table ∙ ap (λ (b : Bool). pick b (change t) t) (le-leb 1024 (length t) h)
-
--- the entries of one palette
-
--- five bytes are an entry as a record of a list
-chunk-row : (l : List ℕ) → 5 ≤ length l → take 5 l ≡ pds.entry_row (pds.entry_of l)
-chunk-row [] h = absurd (omega arith)
-chunk-row (a ∷ []) h = absurd (omega arith)
-chunk-row (a ∷ b ∷ []) h = absurd (omega arith)
-chunk-row (a ∷ b ∷ c ∷ []) h = absurd (omega arith)
-chunk-row (a ∷ b ∷ c ∷ d ∷ []) h = absurd (omega arith)
-chunk-row (a ∷ b ∷ c ∷ d ∷ e ∷ l) h =
-    let body : List ℕ = a ∷ b ∷ c ∷ d ∷ e ∷ l in
-    λ j.
-    num-byte 0 body (omega (arith, h)) j
-    ∷ num-byte 1 body (omega (arith, h)) j
-    ∷ num-byte 2 body (omega (arith, h)) j
-    ∷ num-byte 3 body (omega (arith, h)) j
-    ∷ num-byte 4 body (omega (arith, h)) j
-    ∷ []
-
-chunk-rows : (n : ℕ) (l : List ℕ) → 5 * n ≤ length l → first_chunks 5 n l ≡ map pds.entry_row (records pds.entry_of pds.entry_size n l)
-chunk-rows zero l h = refl
-chunk-rows (suc n) l h = λ j. chunk-row l (omega arith) j ∷ chunk-rows n (drop 5 l) (omega (arith, length-drop 5 l)) j
-
--- the chunks of a body behind its numbers, as the code lends it, are its entries
-pub chunks-are : (body : List ℕ) {chunks : List (List ℕ)} → 2 ≤ length body
-    → chunks ≡ first_chunks 5 (length (take (length body - 2) (drop 2 body)) / 5) (take (length body - 2) (drop 2 body)) → map entry_of chunks ≡ entries_in body
-unfolding pds.entry_rows
-chunks-are body h e =
-    let part : take (length body - 2) (drop 2 body) ≡ drop 2 body = to_end 2 body in
-    let size : length (drop 2 body) ≡ length body - 2 = length-drop 2 body in
-    ap (map entry_of)
-    (e
-    ∙ (λ j. first_chunks 5 (length (part j) / 5) (part j))
-    ∙ (λ j. first_chunks 5 (size j / 5) (drop 2 body))
-    ∙ chunk-rows (pds.entry_count body) (drop 2 body) (omega (arith, size)))
 
 -- a call that lays them, if the palette is the named one
 pub chunks-laid : (body : List ℕ) (named : ℕ) {first : ℕ} {es : List Entry} {v : Verdict} {t t' : List ℕ} → 1024 ≤ length t → first ≡ num 1 0 body

@@ -4,7 +4,7 @@ use mathlib.Core.Bool.{Bool, true, false, ◌||◌, ◌&&◌}
 use mathlib.Core.List.{List, [], ◌∷◌, map}
 use Prim.Native.Nat.{ℕ, ◌+◌, ◌≤◌}
 use native.Mathlib.Omega.{arith}
-use lib.Dec.{leb, eqb}
+use lib.Dec.{eqb}
 use lib.ListN.{length, drop, length-append}
 use Rattle.std.proofs.lemmas.List.Sums.{sum_by-cons}
 use Rattle.pgs_base.specs.Outcome.{and_then, unless, pick}
@@ -13,17 +13,12 @@ use Rattle.pgs_pcs.specs.declared.pcs.CompositionObject.{CompositionObject}
 use Rattle.pgs_reassembly.specs.Objects.{Chain, object_id, width_of, height_of, data_of}
 use Rattle.pgs_reassembly.specs.Reassembly.{copied, copied_data, joined_data, object_record, object_records_from, record_data, record_joined}
 use Rattle.pgs_reassembly.specs.declared.ObjectRecord.{ObjectRecord}
-use Rattle.pgs_rendering.specs.Images.{area_of, bitmaps_verdict, has_object, placements_verdict}
-use Rattle.pgs_rendering.specs.Records.{records_joined, records_need, records_reading, has_record, all_present}
+use Rattle.pgs_rendering.specs.Images.{bitmaps_verdict, has_object, placements_verdict}
+use Rattle.pgs_rendering.specs.Records.{records_joined, records_reading, has_record, all_present}
 
 -- the record where a list has none
 abbrev pub no_record : ObjectRecord
-no_record = record { id = 0; version = 0; width = 0; height = 0; copied = false; place = 0; len = 0 }
-
--- i objects fit, and leave so much room for the others
-pub record Fitting (rs : List ObjectRecord) (room i left : ℕ) : Type 0 where
-  pub within : i ≤ length rs
-  pub fits : leb (records_need (drop i rs)) left ≡ leb (records_need rs) room
+no_record = record { id = 0; version = 0; size = record { width = 0; height = 0 }; copied = false; place = 0; len = 0 }
 
 -- i bitmaps are read, and are accepted
 pub record Reading (s scratch : List ℕ) (rs : List ObjectRecord) (i : ℕ) : Type 0 where
@@ -39,12 +34,6 @@ record-copied at c = go (copied c)
     go false = refl
 
 -- what the records of objects say
-pub need-of : (at : ℕ) (cs : List Chain) → records_need (object_records_from at cs) ≡ length (joined_data cs) + area_of cs
-need-of at [] = refl
-need-of at (c ∷ cs) =
-    let ih = need-of (at + length (copied_data c)) cs in
-    omega (arith, ih, record-copied at c, length-append (copied_data c) (joined_data cs))
-
 pub total_of : (at : ℕ) (cs : List Chain) → records_joined (object_records_from at cs) ≡ length (joined_data cs)
 total_of at [] = refl
 total_of at (c ∷ cs) =

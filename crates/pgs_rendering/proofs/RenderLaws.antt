@@ -1,14 +1,16 @@
 -- Painting a display set, step by step. Assumes nothing.
 use mathlib.Core.Path.{◌≡◌, refl, sym, ap, ◌∙◌}
-use mathlib.Core.Bool.{Bool, true, false}
+use mathlib.Core.Bool.{Bool, true}
 use mathlib.Core.List.{List, [], ◌∷◌, ◌++◌, map, append-nil, append_assoc}
 use mathlib.Core.Option.{Option, none, some}
 use Prim.Native.Nat.{ℕ, ◌+◌, ◌*◌, ◌≤◌, ◌<◌}
 use native.Mathlib.Omega.{arith}
-use borrow.Author.Tests.{le-leb, lt-leb, leb-true}
-use lib.Dec.{leb, ltb}
+use borrow.Author.Tests.{le-leb, lt-leb}
+use lib.Dec.{leb}
 use lib.ListN.{length, take, drop, length-append}
 use lib.Seq.{take_at, drop_at, drop-drop}
+use Rattle.std.proofs.lemmas.List.Recursion.{is_sum_by}
+use Rattle.std.specs.List.{sum_by}
 use Rattle.pgs_base.specs.Bytes.{Bytes}
 use Rattle.pgs_base.specs.declared.dimensions.Dimensions.{Dimensions}
 use Rattle.pgs_base.specs.Outcome.{Verdict, accepted, refused, outcome_of, and_then, unless, needing, laid, pick}
@@ -17,7 +19,7 @@ use Rattle.pgs_bitmap_check.specs.Bitmap.{reading_of, bitmap_of}
 use Rattle.pgs_bitmap.proofs.BitmapArea.{bitmap-area}
 use Rattle.pgs_color.specs.Bytes.{rgb_of}
 use Rattle.pgs_palette.specs.Table as table
-use Rattle.pgs_palette.specs.Palette.{Conversion, Entry}
+use Rattle.pgs_palette.specs.Palette.{Conversion}
 use Rattle.pgs_plane.specs.Calls.{Clears}
 use Rattle.pgs_plane.specs.Pictures.{Picture, plane_of, color_over, transparent, index_of, covering_at, plane_shown, cleared, painted_all}
 use Rattle.pgs_plane.specs.Placing.{Image, table_color}
@@ -26,23 +28,26 @@ use Rattle.pgs_plane.proofs.LastWins.{last-wins}
 use Rattle.pgs_plane.proofs.StripLaws.{strip-length}
 use Rattle.pgs_pcs.specs.declared.pcs.CompositionObject.{CompositionObject}
 use Rattle.pgs_pcs.specs.declared.pcs.Pcs.{Pcs}
-use Rattle.pgs_reassembly.specs.Objects.{Chain, data_of, width_of, height_of, objects_of, objects_verdict}
-use Rattle.pgs_reassembly.specs.Objects.{chains_of, fragments_verdict, object_limit}
+use Rattle.pgs_reassembly.specs.Objects.{Chain, data_of, width_of, height_of, chains_of, fragments_verdict, object_limit}
 use Rattle.pgs_reassembly.specs.Tables.{fragments_left}
-use Rattle.pgs_set.specs.Sets.{set_number, DisplaySet, through_end, sets_verdict, set_count}
+use Rattle.pgs_segment.specs.OneSegment.{used_by}
+use Rattle.pgs_set.specs.Sets.{DisplaySet, through_end}
 use Rattle.pgs_reassembly.specs.Reassembly.{joined_data, object_records, Joined, record_data}
 use Rattle.pgs_reassembly.specs.declared.ObjectRecord.{ObjectRecord}
-use Rattle.pgs_set.specs.Walks.{pieces_at}
-use Rattle.pgs_reassembly.proofs.ViewLaws.{record-data}
+use Rattle.pgs_set.specs.Walks.{pieces_at, SetBegins, set_at}
+use Rattle.pgs_set.proofs.SetLaws.{set_here}
+use Rattle.pgs_reassembly.proofs.ObjectLaws.{begin-fragments, joined-within}
+use Rattle.pgs_reassembly.proofs.ViewLaws.{placed-data}
 use Rattle.pgs_rendering.specs.Images.{look_in, bitmaps_of, area_of, bitmaps_verdict}
 use Rattle.pgs_rendering.specs.Palettes.{entries_among, color_shown, empty_table}
 use Rattle.pgs_rendering.specs.Rendering.{composition_of, placements_in, colors_in, picture_of, early_verdict, content_verdict, left_by, answer_of, Rendered}
-use Rattle.pgs_rendering.specs.Records.{records_joined, records_need, records_area, records_reading, records_bitmaps, all_present, look_at, AllStorable}
-use Rattle.pgs_rendering.specs.Steps.{Listed, Composed, JoinedAndRead, Ready, Showing}
+use Rattle.pgs_rendering.specs.Records.{record_area, records_joined, records_area, records_reading, records_bitmaps, all_present, look_at, AllStorable}
+use Rattle.pgs_rendering.specs.Steps.{objects_in, Listed, JoinedAndRead, Ready, Showing}
+use Rattle.pgs_rendering.proofs.AreaLaws.{area-within}
 use Rattle.pgs_rendering.proofs.ColorLaws.{empty-shown}
 use Rattle.pgs_rendering.proofs.EntryLaws.{few-ids}
 use Rattle.pgs_rendering.proofs.ObjectLaws.{area_of_lem, bitmaps-of, records-held}
-use Rattle.pgs_rendering.proofs.RecordLaws.{need-of, total_of, reading-of, present-of}
+use Rattle.pgs_rendering.proofs.RecordLaws.{total_of, reading-of, present-of}
 use Rattle.pgs_rendering.proofs.ShownLaws.{look-same}
 
 -- bitmaps that are accepted take their area
@@ -78,240 +83,254 @@ picture-length convert d cs =
 pub left-length : (cs : List Chain) → bitmaps_verdict cs ≡ accepted → length (left_by accepted cs) ≡ length (joined_data cs) + area_of cs
 left-length cs e = length-append (joined_data cs) (bitmaps_of cs) ∙ ap (λ (n : ℕ). length (joined_data cs) + n) (bitmaps-area cs e)
 
-module _ (k : ℕ) (s : List ℕ) where
+-- a set whose PCS stands at a place, and its objects
+module _ (s : List ℕ) {at : ℕ} (b : SetBegins s at) where
+  abbrev its : DisplaySet
+  its = set_at s at
+
+  abbrev all : List Chain
+  all = objects_in its
+
   -- where the data is joined, the records show it
-  data-shown : (scratch : List ℕ) {scratch' : List ℕ} → scratch' ≡ laid accepted (joined_data (objects_of k s)) scratch
-      → map (record_data s scratch') (object_records (objects_of k s)) ≡ map data_of (objects_of k s)
+  data-shown : (scratch : List ℕ) {scratch' : List ℕ} → scratch' ≡ laid accepted (joined_data all) scratch
+      → map (record_data s scratch') (object_records all) ≡ map data_of all
   data-shown scratch e =
-      ap (λ (l : List ℕ). map (record_data s l) (object_records (objects_of k s))) e
-      ∙ record-data k s (drop (length (joined_data (objects_of k s))) scratch)
+      ap (λ (l : List ℕ). map (record_data s l) (object_records all)) e
+      ∙ placed-data s b (drop (length (joined_data all)) scratch)
 
   -- the needs of a set, as the code adds them up
-  module _ {rs : List ObjectRecord} (l : Listed k s rs) where
-    pub listed-need : records_need rs ≡ length (joined_data (objects_of k s)) + area_of (objects_of k s)
-    listed-need = ap records_need l.objects ∙ need-of 0 (objects_of k s)
+  module _ {rs : List ObjectRecord} (l : Listed its rs) where
+    pub listed-total : records_joined rs ≡ length (joined_data all)
+    listed-total = ap records_joined l.objects ∙ total_of 0 all
 
-    pub listed-total : records_joined rs ≡ length (joined_data (objects_of k s))
-    listed-total = ap records_joined l.objects ∙ total_of 0 (objects_of k s)
+    -- its joined data is no longer than the stream
+    pub listed-within : records_joined rs ≤ length s
+    listed-within = omega (arith, listed-total, joined-within s b l.taken)
 
-    listed-area : records_area rs ≡ area_of (objects_of k s)
-    listed-area = ap records_area l.objects ∙ area_of_lem 0 (objects_of k s)
+    listed-area : records_area rs ≡ area_of all
+    listed-area = ap records_area l.objects ∙ area_of_lem 0 all
+
+    -- and its bitmaps are not long
+    pub listed-low : Bytes s → records_area rs ≤ 274877906944
+    listed-low h = omega (arith, listed-area, area-within s b h l.taken)
+
+    pub area-sum : records_area rs ≡ sum_by record_area rs
+    area-sum = is_sum_by records_area record_area refl (λ r rs. refl) rs
 
     -- 34
-    module _ (scratch plane : List ℕ) {fits : Bool} (q : fits ≡ leb (records_need rs) (length scratch)) where
-      fits-as : leb (length (joined_data (objects_of k s)) + area_of (objects_of k s)) (length scratch) ≡ fits
-      fits-as = ap (λ (n : ℕ). leb n (length scratch)) (sym listed-need) ∙ sym q
+    module _ (scratch plane : List ℕ) where
+      pub scratch-short : length scratch < records_joined rs + records_area rs → early_verdict accepted its all (length scratch) (length plane) ≡ refused 34
+      scratch-short h =
+          ap (λ (b : Bool). and_then (unless 34 b) (needing (4 * (composition_of its).width * (composition_of its).height) (length plane)))
+          (lt-leb (length (joined_data all) + area_of all) (length scratch) (omega (arith, listed-total, listed-area, h)))
 
-      pub scratch-short : fits ≡ false → early_verdict (objects_verdict k s) (set_number k s) (objects_of k s) (length scratch) (length plane) ≡ refused 34
-      scratch-short f =
-          λ j.
-          and_then (l.taken j)
-          (and_then (unless 34 ((fits-as ∙ f) j)) (needing (4 * (composition_of (set_number k s)).width * (composition_of (set_number k s)).height) (length plane)))
+      module _ (fits : records_joined rs + records_area rs ≤ length scratch) where
+        pub scratch-room : length (joined_data all) + area_of all ≤ length scratch
+        scratch-room = omega (arith, listed-total, listed-area, fits)
 
-      module _ (f : fits ≡ true) where
-        pub scratch-room : length (joined_data (objects_of k s)) + area_of (objects_of k s) ≤ length scratch
-        scratch-room = leb-true (length (joined_data (objects_of k s)) + area_of (objects_of k s)) (length scratch) (fits-as ∙ f)
+        enough : leb (length (joined_data all) + area_of all) (length scratch) ≡ true
+        enough = le-leb (length (joined_data all) + area_of all) (length scratch) scratch-room
 
-        module _ {size : Dimensions} (p : size ≡ (answer_of (set_number k s)).size) where
-          plane-need : 4 * (composition_of (set_number k s)).width * (composition_of (set_number k s)).height ≡ 4 * size.width * size.height
+        module _ {size : Dimensions} (p : size ≡ (answer_of its).size) where
+          plane-need : 4 * (composition_of its).width * (composition_of its).height ≡ 4 * size.width * size.height
           plane-need = ap (λ (x : Dimensions). 4 * x.width * x.height) (sym p)
 
-          pub plane-short : length plane < 4 * size.width * size.height → early_verdict (objects_verdict k s) (set_number k s) (objects_of k s) (length scratch) (length plane) ≡ refused 34
+          pub plane-short : length plane < 4 * size.width * size.height → early_verdict accepted its all (length scratch) (length plane) ≡ refused 34
           plane-short h =
               λ j.
-              and_then (l.taken j)
-              (and_then (unless 34 ((fits-as ∙ f) j))
-              (unless 34 ((ap (λ (n : ℕ). leb n (length plane)) plane-need ∙ lt-leb (4 * size.width * size.height) (length plane) h) j)))
+              and_then (unless 34 (enough j))
+              (unless 34 ((ap (λ (n : ℕ). leb n (length plane)) plane-need ∙ lt-leb (4 * size.width * size.height) (length plane) h) j))
 
-          pub all_room : 4 * size.width * size.height ≤ length plane → early_verdict (objects_verdict k s) (set_number k s) (objects_of k s) (length scratch) (length plane) ≡ accepted
+          pub all_room : 4 * size.width * size.height ≤ length plane → early_verdict accepted its all (length scratch) (length plane) ≡ accepted
           all_room h =
               λ j.
-              and_then (l.taken j)
-              (and_then (unless 34 ((fits-as ∙ f) j))
-              (unless 34 ((ap (λ (n : ℕ). leb n (length plane)) plane-need ∙ le-leb (4 * size.width * size.height) (length plane) h) j)))
+              and_then (unless 34 (enough j))
+              (unless 34 ((ap (λ (n : ℕ). leb n (length plane)) plane-need ∙ le-leb (4 * size.width * size.height) (length plane) h) j))
 
-          pub readied : 4 * size.width * size.height ≤ length plane → {scratch' : List ℕ} {v : Verdict} → JoinedAndRead k s scratch scratch' v
-              → v ≡ accepted → length scratch' ≡ length scratch → {joined : ℕ} → joined ≡ records_joined rs → Ready k s joined scratch' plane
+          pub readied : 4 * size.width * size.height ≤ length plane → {scratch' : List ℕ} {v : Verdict} → JoinedAndRead its scratch scratch' v
+              → v ≡ accepted → length scratch' ≡ length scratch → {joined : ℕ} → joined ≡ records_joined rs → Ready its joined scratch' plane
           readied h {scratch'} w a long {joined} j =
               record {
                 content = sym w.content ∙ a;
                 size = j ∙ listed-total;
                 begins =
                     w.joined
-                    ∙ ap (λ (x : List ℕ). joined_data (objects_of k s) ++ x)
+                    ∙ ap (λ (x : List ℕ). joined_data all ++ x)
                     (sym
-                    (ap (drop (length (joined_data (objects_of k s)))) w.joined
-                    ∙ drop_at (joined_data (objects_of k s)) (drop (length (joined_data (objects_of k s))) scratch) (length (joined_data (objects_of k s))) refl));
+                    (ap (drop (length (joined_data all))) w.joined
+                    ∙ drop_at (joined_data all) (drop (length (joined_data all)) scratch) (length (joined_data all)) refl));
                 room = omega (arith, j, listed-total, scratch-room, long);
                 plane_room = omega (arith, plane-need, h);
               }
 
-    -- the data joined by the call that does it
-    pub joins : {body : List ℕ} {pts from : ℕ} → Composed k s body pts from → {scratch scratch' : List ℕ} {v : Verdict}
-        → length (joined_data (objects_of k s)) ≤ length scratch
-        → Joined (fragments_verdict object_limit (fragments_left s from)) (chains_of (fragments_left s from)) scratch scratch' v
-        → scratch' ≡ laid accepted (joined_data (objects_of k s)) scratch
-    unfolding objects_of
-    joins o {scratch} room d =
-        let fits = second_holds (unless 36 (ltb k (set_count s))) _ (second_holds (sets_verdict s) _ l.taken) in
-        (rw o.fragments at d).written
-        ∙ (λ j. laid (and_then (fits j) (unless 34 (le-leb (length (joined_data (objects_of k s))) (length scratch) room j))) (joined_data (objects_of k s)) scratch)
+    -- the data joined by the call that does it, for the set behind its PCS
+    pub joins : {t : List ℕ} {from : ℕ} → t ≡ s → from ≡ at + used_by (drop at s) → {scratch scratch' : List ℕ} {v : Verdict}
+        → length (joined_data all) ≤ length scratch
+        → Joined (fragments_verdict object_limit (fragments_left t from)) (chains_of (fragments_left t from)) scratch scratch' v
+        → scratch' ≡ laid accepted (joined_data all) scratch
+    joins es ef {scratch} room d =
+        (rw (es, ef, ← begin-fragments s b) at d).written
+        ∙ (λ j. laid (and_then (l.taken j) (unless 34 (le-leb (length (joined_data all)) (length scratch) room j))) (joined_data all) scratch)
 
     -- 24 to 33
-    pub reads-content : {placements : List CompositionObject} → placements ≡ placements_in (set_number k s) → {scratch scratch' : List ℕ}
-        → scratch' ≡ laid accepted (joined_data (objects_of k s)) scratch
+    pub reads-content : {placements : List CompositionObject} → placements ≡ placements_in its → {scratch scratch' : List ℕ}
+        → scratch' ≡ laid accepted (joined_data all) scratch
         → {v : Verdict} → v ≡ and_then (records_reading s scratch' rs) (unless 33 (all_present rs placements))
-        → JoinedAndRead k s scratch scratch' v
+        → JoinedAndRead its scratch scratch' v
     reads-content {placements = placements} p {scratch} {scratch'} e q =
         record {
           content =
               q
               ∙ (λ j. and_then (records_reading s scratch' (l.objects j)) (unless 33 (all_present (l.objects j) (p j))))
-              ∙ (λ j. and_then (reading-of s scratch' 0 (objects_of k s) (data-shown scratch e) j) (present-of 0 (objects_of k s) (placements_in (set_number k s)) j));
+              ∙ (λ j. and_then (reading-of s scratch' 0 all (data-shown scratch e) j) (present-of 0 all (placements_in its) j));
           joined = e;
         }
 
     -- what cannot fail after that
-    module _ {joined : ℕ} {scratch plane : List ℕ} (r : Ready k s joined scratch plane) where
-      accepts : bitmaps_verdict (objects_of k s) ≡ accepted
-      accepts = first-accepts (bitmaps_verdict (objects_of k s)) _ r.content
+    module _ {joined : ℕ} {scratch plane : List ℕ} (r : Ready its joined scratch plane) where
+      accepts : bitmaps_verdict all ≡ accepted
+      accepts = first-accepts (bitmaps_verdict all) _ r.content
 
-      pub ready-present : all_present rs (placements_in (set_number k s)) ≡ true
+      pub ready-present : all_present rs (placements_in its) ≡ true
       ready-present =
-          holds 33 (all_present rs (placements_in (set_number k s)))
-          (ap (λ (l : List ObjectRecord). unless 33 (all_present l (placements_in (set_number k s)))) l.objects
-          ∙ present-of 0 (objects_of k s) (placements_in (set_number k s))
-          ∙ second_holds (bitmaps_verdict (objects_of k s)) _ r.content)
+          holds 33 (all_present rs (placements_in its))
+          (ap (λ (l : List ObjectRecord). unless 33 (all_present l (placements_in its))) l.objects
+          ∙ present-of 0 all (placements_in its)
+          ∙ second_holds (bitmaps_verdict all) _ r.content)
 
       pub ready-storable : AllStorable s rs joined scratch
       ready-storable =
           record {
             room = omega (arith, listed-area, r.room);
-            held = rw l.objects (records-held 0 joined (objects_of k s) (omega (arith, r.size)));
-            reads = ap (records_reading s scratch) l.objects ∙ reading-of s scratch 0 (objects_of k s) (data-shown scratch r.begins) ∙ accepts;
+            held = rw l.objects (records-held 0 joined all (omega (arith, r.size)));
+            reads = ap (records_reading s scratch) l.objects ∙ reading-of s scratch 0 all (data-shown scratch r.begins) ∙ accepts;
           }
 
       pub ready-room : joined + records_area rs ≤ length scratch
       ready-room = omega (arith, listed-area, r.room)
 
-      all_left : joined + records_area rs ≡ length (joined_data (objects_of k s) ++ bitmaps_of (objects_of k s))
-      all_left = omega (arith, listed-area, r.size, left-length (objects_of k s) accepts)
+      all_left : joined + records_area rs ≡ length (joined_data all ++ bitmaps_of all)
+      all_left = omega (arith, listed-area, r.size, left-length all accepts)
 
       module _ {scratch' : List ℕ} (e : scratch' ≡ take joined scratch ++ (records_bitmaps s scratch rs ++ drop (joined + records_area rs) scratch)) where
-        in_order : scratch' ≡ joined_data (objects_of k s) ++ (bitmaps_of (objects_of k s) ++ drop (joined + records_area rs) scratch)
+        in_order : scratch' ≡ joined_data all ++ (bitmaps_of all ++ drop (joined + records_area rs) scratch)
         in_order =
             e
             ∙ (λ j.
-            (ap (take joined) r.begins ∙ take_at (joined_data (objects_of k s)) (drop (length (joined_data (objects_of k s))) scratch) joined (sym r.size)) j
-            ++ ((ap (records_bitmaps s scratch) l.objects ∙ bitmaps-of s scratch 0 (objects_of k s) (data-shown scratch r.begins)) j ++ drop (joined + records_area rs) scratch))
+            (ap (take joined) r.begins ∙ take_at (joined_data all) (drop (length (joined_data all)) scratch) joined (sym r.size)) j
+            ++ ((ap (records_bitmaps s scratch) l.objects ∙ bitmaps-of s scratch 0 all (data-shown scratch r.begins)) j ++ drop (joined + records_area rs) scratch))
 
-        pub ready-stored : scratch' ≡ laid accepted (left_by accepted (objects_of k s)) scratch
+        pub ready-stored : scratch' ≡ laid accepted (left_by accepted all) scratch
         ready-stored =
             in_order
-            ∙ sym (append_assoc (joined_data (objects_of k s)) (bitmaps_of (objects_of k s)) (drop (joined + records_area rs) scratch))
-            ∙ ap (λ (n : ℕ). (joined_data (objects_of k s) ++ bitmaps_of (objects_of k s)) ++ drop n scratch) all_left
+            ∙ sym (append_assoc (joined_data all) (bitmaps_of all) (drop (joined + records_area rs) scratch))
+            ∙ ap (λ (n : ℕ). (joined_data all ++ bitmaps_of all) ++ drop n scratch) all_left
 
-        looks : (id : ℕ) → look_at scratch' joined rs id ≡ look_in (objects_of k s) id
+        looks : (id : ℕ) → look_at scratch' joined rs id ≡ look_in all id
         looks id =
             ap (λ (rs : List ObjectRecord). look_at scratch' joined rs id) l.objects
-            ∙ look-same scratch' (drop (joined + records_area rs) scratch) joined 0 (objects_of k s) id accepts
+            ∙ look-same scratch' (drop (joined + records_area rs) scratch) joined 0 all id accepts
             (ap (drop joined) in_order
-            ∙ drop_at (joined_data (objects_of k s)) (bitmaps_of (objects_of k s) ++ drop (joined + records_area rs) scratch) joined (sym r.size))
+            ∙ drop_at (joined_data all) (bitmaps_of all ++ drop (joined + records_area rs) scratch) joined (sym r.size))
 
-        -- the plane
-        module _ {body : List ℕ} {pts from : ℕ} (o : Composed k s body pts from) {pcs : Pcs} (p : pcs ≡ composition_of (set_number k s)) (h : Bytes s)
-            {t : List ℕ} (et : t ≡ table.laid rgb_of (entries_among pcs.palette_id (through_end (pieces_at s from))) empty_table) where
-          entries : entries_among pcs.palette_id (through_end (pieces_at s from)) ≡ entries_among (composition_of (set_number k s)).palette_id (set_number k s).others
-          entries = λ j. entries_among (p j).palette_id (o.others j)
+        -- the plane, with the palettes of the set behind its PCS
+        module _ {u : List ℕ} {from : ℕ} (es : u ≡ s) (ef : from ≡ at + used_by (drop at s)) {pcs : Pcs} (p : pcs ≡ composition_of its) (h : Bytes s)
+            {t : List ℕ} (et : t ≡ table.laid rgb_of (entries_among pcs.palette_id (through_end (pieces_at u from))) empty_table) where
+          others : through_end (pieces_at s (at + used_by (drop at s))) ≡ its.others
+          others = sym (ap (λ (d : DisplaySet). d.others) (set_here s b.standing b.more))
 
-          colors : (i : ℕ) → table_color t i ≡ color_shown rgb_of (entries_among (composition_of (set_number k s)).palette_id (set_number k s).others) i
+          colors : (i : ℕ) → table_color t i ≡ color_shown rgb_of (entries_among (composition_of its).palette_id its.others) i
           colors i =
-              ap (λ (x : List ℕ). table_color x i) et
-              ∙ empty-shown (entries_among pcs.palette_id (through_end (pieces_at s from))) (few-ids pcs.palette_id s from h) i
-              ∙ ap (λ (es : List Entry). color_shown rgb_of es i) entries
+              ap (λ (x : List ℕ). table_color x i) (et ∙ (λ j. table.laid rgb_of (entries_among pcs.palette_id (through_end (pieces_at (es j) (ef j)))) empty_table))
+              ∙ empty-shown (entries_among pcs.palette_id (through_end (pieces_at s (at + used_by (drop at s))))) (few-ids pcs.palette_id s (at + used_by (drop at s)) h) i
+              ∙ (λ j. color_shown rgb_of (entries_among (p j).palette_id (others j)) i)
 
-          pub ready-painted : {size : Dimensions} → size ≡ (answer_of (set_number k s)).size
-              → {placements : List CompositionObject} → placements ≡ placements_in (set_number k s)
+          pub ready-painted : {size : Dimensions} → size ≡ (answer_of its).size
+              → {placements : List CompositionObject} → placements ≡ placements_in its
               → {answer : Verdict} {cleared' plane' : List ℕ} → Clears size.width size.height plane answer cleared'
               → plane' ≡ painted_all (table_color t) (look_at scratch' joined rs) placements size.width size.height cleared'
-              → plane' ≡ laid accepted (picture_of (colors_in rgb_of (set_number k s)) (look_in (objects_of k s)) (set_number k s)) plane
+              → plane' ≡ laid accepted (picture_of (colors_in rgb_of its) (look_in all) its) plane
           ready-painted {size} es ep c q =
               q
               ∙ (λ j.
               painted_all (table_color t) (look_at scratch' joined rs) (ep j) size.width size.height
               ((c.plane ∙ ap (λ (b : Bool). pick b (cleared size.width size.height plane) plane) (le-leb (4 * size.width * size.height) (length plane) room)) j))
-              ∙ last-wins (table_color t) (λ i. refl) (look_at scratch' joined rs) (placements_in (set_number k s)) size.width size.height plane
+              ∙ last-wins (table_color t) (λ i. refl) (look_at scratch' joined rs) (placements_in its) size.width size.height plane
               ∙ (λ j.
-              plane_shown (λ i. colors i j) (λ id. looks id j) (placements_in (set_number k s)) (es j).width (es j).height
+              plane_shown (λ i. colors i j) (λ id. looks id j) (placements_in its) (es j).width (es j).height
               ++ drop (4 * (es j).width * (es j).height) plane)
-              ∙ ap (λ (n : ℕ). picture_of (colors_in rgb_of (set_number k s)) (look_in (objects_of k s)) (set_number k s) ++ drop n plane)
-              (sym (picture-length rgb_of (set_number k s) (objects_of k s)))
+              ∙ ap (λ (n : ℕ). picture_of (colors_in rgb_of its) (look_in all) its ++ drop n plane)
+              (sym (picture-length rgb_of its all))
             where
               room : 4 * size.width * size.height ≤ length plane
               room = omega (arith, ap (λ (x : Dimensions). 4 * x.width * x.height) es, r.plane_room)
 
-  -- how painting ends
-  module _ {scratch plane : List ℕ} where
+-- how painting a set ends, where finding its objects has this verdict
+module _ (d : DisplaySet) where
+  abbrev cs : List Chain
+  cs = objects_in d
+
+  module _ {v : Verdict} {scratch plane : List ℕ} where
     pub renders-none : {n : ℕ}
-        → early_verdict (objects_verdict k s) (set_number k s) (objects_of k s) (length scratch) (length plane)
+        → early_verdict v d cs (length scratch) (length plane)
         ≡ refused n
-        → Rendered rgb_of (objects_verdict k s) (set_number k s) (objects_of k s) scratch scratch plane plane
-        (outcome_of (refused n) (answer_of (set_number k s)))
+        → Rendered rgb_of v d cs scratch scratch plane plane
+        (outcome_of (refused n) (answer_of d))
     renders-none e =
         record {
           answered = sym
               (ap
-              (λ (v : Verdict). outcome_of (and_then v (content_verdict (set_number k s) (objects_of k s)))
-              (answer_of (set_number k s))) e);
+              (λ (v : Verdict). outcome_of (and_then v (content_verdict d cs))
+              (answer_of d)) e);
           stored = sym
               (ap
-              (λ (v : Verdict). laid v (left_by (content_verdict (set_number k s) (objects_of k s)) (objects_of k s))
+              (λ (v : Verdict). laid v (left_by (content_verdict d cs) cs)
               scratch) e);
           shown = sym
               (ap
-              (λ (v : Verdict). laid (and_then v (content_verdict (set_number k s) (objects_of k s)))
-              (picture_of (colors_in rgb_of (set_number k s)) (look_in (objects_of k s)) (set_number k s)) plane) e);
+              (λ (v : Verdict). laid (and_then v (content_verdict d cs))
+              (picture_of (colors_in rgb_of d) (look_in cs) d) plane) e);
         }
 
-    module _ (open-to : early_verdict (objects_verdict k s) (set_number k s) (objects_of k s) (length scratch) (length plane) ≡ accepted) where
-      pub renders-joined : {n : ℕ} {scratch' : List ℕ} → content_verdict (set_number k s) (objects_of k s) ≡ refused n
-          → scratch' ≡ laid accepted (joined_data (objects_of k s)) scratch
-          → Rendered rgb_of (objects_verdict k s) (set_number k s) (objects_of k s) scratch scratch' plane plane
-          (outcome_of (refused n) (answer_of (set_number k s)))
+    module _ (open-to : early_verdict v d cs (length scratch) (length plane) ≡ accepted) where
+      pub renders-joined : {n : ℕ} {scratch' : List ℕ} → content_verdict d cs ≡ refused n
+          → scratch' ≡ laid accepted (joined_data cs) scratch
+          → Rendered rgb_of v d cs scratch scratch' plane plane
+          (outcome_of (refused n) (answer_of d))
       renders-joined {n} e q =
           record {
-            answered = λ j. outcome_of (and_then (sym open-to j) (sym e j)) (answer_of (set_number k s));
+            answered = λ j. outcome_of (and_then (sym open-to j) (sym e j)) (answer_of d);
             stored =
                 q
-                ∙ ap (λ (x : List ℕ). laid accepted x scratch) (sym (append-nil (joined_data (objects_of k s))))
-                ∙ (λ j. laid (sym open-to j) (left_by (sym e j) (objects_of k s)) scratch);
-            shown = λ j. laid (and_then (sym open-to j) (sym e j)) (picture_of (colors_in rgb_of (set_number k s)) (look_in (objects_of k s)) (set_number k s)) plane;
+                ∙ ap (λ (x : List ℕ). laid accepted x scratch) (sym (append-nil (joined_data cs)))
+                ∙ (λ j. laid (sym open-to j) (left_by (sym e j) cs) scratch);
+            shown = λ j. laid (and_then (sym open-to j) (sym e j)) (picture_of (colors_in rgb_of d) (look_in cs) d) plane;
           }
 
-      pub renders-all : {scratch₁ scratch₂ plane₂ : List ℕ} → content_verdict (set_number k s) (objects_of k s) ≡ accepted
-          → scratch₁ ≡ laid accepted (joined_data (objects_of k s)) scratch → Showing k s scratch₁ scratch₂ plane plane₂
-          → Rendered rgb_of (objects_verdict k s) (set_number k s) (objects_of k s) scratch scratch₂ plane plane₂ (outcome_of accepted (answer_of (set_number k s)))
+      pub renders-all : {scratch₁ scratch₂ plane₂ : List ℕ} → content_verdict d cs ≡ accepted
+          → scratch₁ ≡ laid accepted (joined_data cs) scratch → Showing d scratch₁ scratch₂ plane plane₂
+          → Rendered rgb_of v d cs scratch scratch₂ plane plane₂ (outcome_of accepted (answer_of d))
       renders-all {scratch₁} e q w =
           record {
-            answered = λ j. outcome_of (and_then (sym open-to j) (sym e j)) (answer_of (set_number k s));
+            answered = λ j. outcome_of (and_then (sym open-to j) (sym e j)) (answer_of d);
             stored =
                 w.stored
-                ∙ ap (λ (x : List ℕ). (joined_data (objects_of k s) ++ bitmaps_of (objects_of k s)) ++ x) behind
-                ∙ (λ j. laid (sym open-to j) (left_by (sym e j) (objects_of k s)) scratch);
-            shown = w.shown ∙ (λ j. laid (and_then (sym open-to j) (sym e j)) (picture_of (colors_in rgb_of (set_number k s)) (look_in (objects_of k s)) (set_number k s)) plane);
+                ∙ ap (λ (x : List ℕ). (joined_data cs ++ bitmaps_of cs) ++ x) behind
+                ∙ (λ j. laid (sym open-to j) (left_by (sym e j) cs) scratch);
+            shown = w.shown ∙ (λ j. laid (and_then (sym open-to j) (sym e j)) (picture_of (colors_in rgb_of d) (look_in cs) d) plane);
           }
         where
           J : ℕ
-          J = length (joined_data (objects_of k s))
+          J = length (joined_data cs)
 
-          far : length (joined_data (objects_of k s) ++ bitmaps_of (objects_of k s)) ≡ J + length (bitmaps_of (objects_of k s))
-          far = length-append (joined_data (objects_of k s)) (bitmaps_of (objects_of k s))
+          far : length (joined_data cs ++ bitmaps_of cs) ≡ J + length (bitmaps_of cs)
+          far = length-append (joined_data cs) (bitmaps_of cs)
 
-          behind : drop (length (joined_data (objects_of k s) ++ bitmaps_of (objects_of k s))) scratch₁
-              ≡ drop (length (joined_data (objects_of k s) ++ bitmaps_of (objects_of k s))) scratch
+          behind : drop (length (joined_data cs ++ bitmaps_of cs)) scratch₁
+              ≡ drop (length (joined_data cs ++ bitmaps_of cs)) scratch
           behind =
               ap (λ (n : ℕ). drop n scratch₁) far
-              ∙ sym (drop-drop (length (bitmaps_of (objects_of k s))) J scratch₁)
-              ∙ ap (drop (length (bitmaps_of (objects_of k s)))) (ap (drop J) q ∙ drop_at (joined_data (objects_of k s)) (drop J scratch) J refl)
-              ∙ drop-drop (length (bitmaps_of (objects_of k s))) J scratch
+              ∙ sym (drop-drop (length (bitmaps_of cs)) J scratch₁)
+              ∙ ap (drop (length (bitmaps_of cs))) (ap (drop J) q ∙ drop_at (joined_data cs) (drop J scratch) J refl)
+              ∙ drop-drop (length (bitmaps_of cs)) J scratch
               ∙ ap (λ (n : ℕ). drop n scratch) (sym far)

@@ -51,14 +51,14 @@ module _ (s : List ℕ) (r : ObjectRecord) (at : ℕ) (scratch : List ℕ) (st :
       is : bytes ≡ record_data s scratch r
       is = eb ∙ shown-stream s other scratch r e
 
-      ok : (reading_of bytes r.width r.height).verdict ≡ accepted
-      ok = ap (λ (b : List ℕ). (reading_of b r.width r.height).verdict) is ∙ st.reads
+      ok : (reading_of bytes r.size.width r.size.height).verdict ≡ accepted
+      ok = ap (λ (b : List ℕ). (reading_of b r.size.width r.size.height).verdict) is ∙ st.reads
 
       inside : n ≤ length (drop at scratch)
       inside = omega (arith, length-drop at scratch, area, st.room)
 
       fills : length (bitmap_of bytes) ≡ length part
-      fills = bitmap-area bytes r.width r.height ok ∙ sym (ap length ep ∙ length-take-le n (drop at scratch) inside ∙ area)
+      fills = bitmap-area bytes r.size.width r.size.height ok ∙ sym (ap length ep ∙ length-take-le n (drop at scratch) inside ∙ area)
 
   pub stored-scratch : r.copied ≡ true → {scratch' : List ℕ} → scratch' ≡ stored_within scratch r.place r.len at
       → scratch' ≡ take at scratch ++ (bitmap_of (record_data s scratch r) ++ drop (at + record_area r) scratch)
@@ -77,8 +77,8 @@ module _ (s : List ℕ) (r : ObjectRecord) (at : ℕ) (scratch : List ℕ) (st :
 
       area : length pixels ≡ record_area r
       area =
-          bitmap-area (part_at scratch r.place r.len) r.width r.height
-          (ap (λ (b : List ℕ). (reading_of b r.width r.height).verdict) is ∙ st.reads)
+          bitmap-area (part_at scratch r.place r.len) r.size.width r.size.height
+          (ap (λ (b : List ℕ). (reading_of b r.size.width r.size.height).verdict) is ∙ st.reads)
 
       met : room_for (length scratch) r.place r.len at ≡ true
       met = λ j. le-leb (r.place + r.len) at (st.held e) j && le-leb at (length scratch) (omega (arith, st.room)) j
@@ -154,7 +154,7 @@ module _ (s : List ℕ) (rs : List ObjectRecord) (from : ℕ) (start : List ℕ)
 
       its-reading : record_reading s now (get_or rs i no_record) ≡ accepted
       its-reading =
-          ap (λ (b : List ℕ). (reading_of b (get_or rs i no_record).width (get_or rs i no_record).height).verdict) alike
+          ap (λ (b : List ℕ). (reading_of b (get_or rs i no_record).size.width (get_or rs i no_record).size.height).verdict) alike
           ∙ first-accepts (record_reading s start (get_or rs i no_record)) (records_reading s start (drop (i + 1) rs)) ok
 
       pub stores_one : Storable s (get_or rs i no_record) at now
@@ -201,7 +201,7 @@ module _ (s : List ℕ) (rs : List ObjectRecord) (from : ℕ) (start : List ℕ)
           fits = stores-within
 
           size : length new ≡ area
-          size = bitmap-area (record_data s now (get_or rs i no_record)) (get_or rs i no_record).width (get_or rs i no_record).height its-reading
+          size = bitmap-area (record_data s now (get_or rs i no_record)) (get_or rs i no_record).size.width (get_or rs i no_record).size.height its-reading
 
           first : take (at + area) now' ≡ take at now ++ new
           first = ap (take (at + area)) e ∙ put-take now new at area fits size

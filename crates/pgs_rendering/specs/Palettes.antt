@@ -1,21 +1,12 @@
 -- The palette of a display set. 01, 'Plane': "Only palettes whose id the PCS names apply, in order, later entries winning. An index
 -- without an entry is 00 00 00 00."
-use Rattle.std.specs.Prelude.{Bool, true, false, List, [], ◌∷◌, ◌++◌, map, ℕ, replicate}
+use Rattle.std.specs.Prelude.{List, [], ◌∷◌, ◌++◌, map, ℕ, replicate}
 use Rattle.pgs_base.specs.Outcome.{pick}
-use Rattle.pgs_views.specs.declared.segment_type.SegmentType.{SegmentType}
-use Rattle.pgs_views.specs.declared.segment_type.SegmentType.TheVariants.{Pds, Ods, Pcs, Wds, End, Other}
+pub use Rattle.pgs_views.specs.Kinds.{is_pds}
 use Rattle.pgs_segment.specs.OneSegment.{segment_type, body_at}
 use Rattle.pgs_pds.specs.PdsBody.{entry_rows, pds_of}
 use Rattle.pgs_palette.specs.Palette.{Entry, entry_of, applying, Conversion, color_at}
 use Rattle.pgs_palette.specs.Table.{pixel_of}
-
-abbrev pub is_pds : SegmentType → Bool
-is_pds Pds = true
-is_pds Ods = false
-is_pds Pcs = false
-is_pds Wds = false
-is_pds End = false
-is_pds (Other v) = false
 
 -- the entries of a palette segment's body
 abbrev pub entries_in : List ℕ → List Entry

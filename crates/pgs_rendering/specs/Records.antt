@@ -2,7 +2,6 @@
 -- `Rendering`.
 use Rattle.std.specs.Prelude.{Bool, true, ◌≡◌, List, [], ◌∷◌, ◌++◌, ℕ, ◌+◌, ◌*◌, ◌≤◌, eqb, length, take, drop, All, Option, None, Some}
 use Rattle.std.specs.List.{sum_by, list_any, list_all}
-use Rattle.pgs_base.specs.declared.dimensions.Dimensions.{Dimensions}
 use Rattle.pgs_base.specs.Outcome.{Verdict, accepted, and_then, pick}
 use Rattle.pgs_bitmap_check.specs.Bitmap.{reading_of, bitmap_of}
 use Rattle.pgs_plane.specs.Placing.{Image, image_of}
@@ -10,18 +9,9 @@ use Rattle.pgs_pcs.specs.declared.pcs.CompositionObject.{CompositionObject}
 use Rattle.pgs_reassembly.specs.Reassembly.{record_data, record_joined}
 use Rattle.pgs_reassembly.specs.declared.ObjectRecord.{ObjectRecord}
 
--- the size of an object's bitmap
-abbrev pub record_size : ObjectRecord → Dimensions
-record_size r = record { width = r.width; height = r.height }
-
 -- the pixels of an object
 abbrev pub record_area : ObjectRecord → ℕ
-record_area r = r.width * r.height
-
--- the bytes of the scratch that objects need
-abbrev pub records_need : List ObjectRecord → ℕ
-records_need [] = 0
-records_need (r ∷ rs) = record_joined r + record_area r + records_need rs
+record_area r = r.size.width * r.size.height
 
 -- J: the bytes of the scratch that the joined data takes
 abbrev pub records_joined : List ObjectRecord → ℕ
@@ -29,7 +19,7 @@ records_joined rs = sum_by record_joined rs
 
 -- 24 to 32 of one object, whose data its record shows
 abbrev pub record_reading : List ℕ → List ℕ → ObjectRecord → Verdict
-record_reading s scratch r = (reading_of (record_data s scratch r) r.width r.height).verdict
+record_reading s scratch r = (reading_of (record_data s scratch r) r.size.width r.size.height).verdict
 
 -- and of each
 abbrev pub records_reading : List ℕ → List ℕ → List ObjectRecord → Verdict
@@ -53,7 +43,7 @@ records_area (r ∷ rs) = record_area r + records_area rs
 abbrev pub bitmap_at : List ℕ → ℕ → List ObjectRecord → ℕ → Option Image
 bitmap_at scratch at [] id = None
 bitmap_at scratch at (r ∷ rs) id =
-    pick (eqb r.id id) (Some (image_of r.width r.height (take (record_area r) (drop at scratch)))) (bitmap_at scratch (at + record_area r) rs id)
+    pick (eqb r.id id) (Some (image_of r.size.width r.size.height (take (record_area r) (drop at scratch)))) (bitmap_at scratch (at + record_area r) rs id)
 
 -- and where no object has the id, one that covers nothing
 abbrev pub image_or : Option Image → Image

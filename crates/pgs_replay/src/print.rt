@@ -9,10 +9,12 @@ use pgs_pcs::pcs::Pcs;
 use pgs_pds::pds::Pds;
 use pgs_records::BodyList;
 use pgs_rendering::Shown;
+use pgs_stream_writer::stream::Writes;
 use std::fmt::Display;
 use std::io;
 
 // What a call gives that is not refused.
+// Stays beside the `Given` of `writer_samples`: the two print in other words, so that a trait in a library would have no impl in common.
 pub(crate) trait Given: Drop {
     fn print(self, rt: &impl Print) -> io::Result<()>;
 }
@@ -31,10 +33,10 @@ impl Given for usize {
 }
 
 // How many segments were written, and in how many bytes.
-impl Given for (usize, usize) {
+impl Given for Writes {
     fn print(self, rt: &impl Print) -> io::Result<()> {
-        let (segments, bytes) = self;
-        print!(rt; " {segments} {bytes}")
+        let Writes { accepted, bytes } = self;
+        print!(rt; " {accepted} {bytes}")
     }
 }
 
@@ -46,21 +48,24 @@ impl Given for Shown {
     }
 }
 
-// The numbers of a PCS, and how many placements were stored.
-impl Given for (Pcs, usize) {
+impl Given for Pcs {
     fn print(self, rt: &impl Print) -> io::Result<()> {
-        let (pcs, placements) = self;
-        print!(rt; " {placements}")?;
-        record(rt, &pcs_cells(pcs))
+        record(rt, &pcs_cells(self))
     }
 }
 
-// The numbers of a PDS, and how many entries were stored.
-impl Given for (Pds, usize) {
+impl Given for Pds {
     fn print(self, rt: &impl Print) -> io::Result<()> {
-        let (pds, entries) = self;
-        print!(rt; " {entries}")?;
-        record(rt, &pds_cells(pds))
+        record(rt, &pds_cells(self))
+    }
+}
+
+// The numbers of a body, and how many records were stored.
+impl<N: Given> Given for (N, usize) {
+    fn print(self, rt: &impl Print) -> io::Result<()> {
+        let (numbers, records) = self;
+        print!(rt; " {records}")?;
+        numbers.print(rt)
     }
 }
 
@@ -77,13 +82,6 @@ impl Given for Rgba8 {
     fn print(self, rt: &impl Print) -> io::Result<()> {
         let Rgba8 { r, g, b, a } = self;
         record(rt, &[r, g, b, a])
-    }
-}
-
-// A record of a list.
-impl<N: Display + Drop, const LEN: usize> Given for [N; LEN] {
-    fn print(self, rt: &impl Print) -> io::Result<()> {
-        record(rt, &self)
     }
 }
 
@@ -112,7 +110,8 @@ pub(crate) fn answer(
     outcome(rt, " accepted", answer)
 }
 
-pub(crate) fn record(rt: &impl Print, numbers: &[impl Display]) -> io::Result<()> {
+// The numbers of a record.
+fn record(rt: &impl Print, numbers: &[impl Display]) -> io::Result<()> {
     print!(rt; ",")?;
     for number in numbers {
         print!(rt; " {number}")?;
@@ -120,51 +119,49 @@ pub(crate) fn record(rt: &impl Print, numbers: &[impl Display]) -> io::Result<()
     Ok(())
 }
 
-// The records of a list.
-pub(crate) fn records<R: Given + Copy>(rt: &impl Print, list: &[R]) -> io::Result<()> {
-    for record in list {
-        record.print(rt)?;
-    }
-    Ok(())
+// What a list holds that a caller lends.
+pub(crate) trait Lent: Sized {
+    fn print(rt: &impl Print, list: &[Self]) -> io::Result<()>;
 }
 
 // All bytes of a buffer, in hexadecimal.
-pub(crate) fn bytes(rt: &impl Print, buffer: &[u8]) -> io::Result<()> {
-    print!(rt; ", ")?;
-    for byte in buffer {
-        print!(rt; "{byte:02x}")?;
+impl Lent for u8 {
+    fn print(rt: &impl Print, list: &[u8]) -> io::Result<()> {
+        print!(rt; ", ")?;
+        for byte in list {
+            print!(rt; "{byte:02x}")?;
+        }
+        Ok(())
     }
-    Ok(())
 }
 
-// The line of a call that fills a list: its answer, then the list.
-pub(crate) fn listed<R: Given + Copy, G: Given, F>(
+// The records of a list.
+impl<N: Display, const LEN: usize> Lent for [N; LEN] {
+    fn print(rt: &impl Print, list: &[[N; LEN]]) -> io::Result<()> {
+        for numbers in list {
+            record(rt, numbers)?;
+        }
+        Ok(())
+    }
+}
+
+// All that a list or a buffer holds after a call.
+pub(crate) fn list<T: Lent>(rt: &impl Print, list: &[T]) -> io::Result<()> {
+    T::print(rt, list)
+}
+
+// The line of a call that fills a list or a buffer: its answer, then what was lent.
+pub(crate) fn filled<T: Lent, G: Given, F>(
     rt: &impl Print,
     name: &str,
-    list: &mut [R],
+    lent: &mut [T],
     call: F,
 ) -> io::Result<()>
 where
-    F: FnOnce(&mut [R]) -> Result<G, Refusal>,
+    F: FnOnce(&mut [T]) -> Result<G, Refusal>,
     requires { F.IsAlwaysCallable call }
 {
-    answer(rt, name, call(list))?;
-    records(rt, list)?;
-    println!(rt; "")
-}
-
-// The line of a call that fills a buffer: its answer, then the buffer.
-pub(crate) fn stored<G: Given, F>(
-    rt: &impl Print,
-    name: &str,
-    buffer: &mut [u8],
-    call: F,
-) -> io::Result<()>
-where
-    F: FnOnce(&mut [u8]) -> Result<G, Refusal>,
-    requires { F.IsAlwaysCallable call }
-{
-    answer(rt, name, call(buffer))?;
-    bytes(rt, buffer)?;
+    answer(rt, name, call(lent))?;
+    list(rt, lent)?;
     println!(rt; "")
 }

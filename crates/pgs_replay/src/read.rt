@@ -15,7 +15,7 @@ use pgs_wds::wds::Wds;
 use std::io;
 
 pub(crate) fn segments(rt: &impl Print, input: &[u8]) -> io::Result<()> {
-    print::listed(
+    print::filled(
         rt,
         "segments",
         &mut [[9u64; 5]; 6],
@@ -24,7 +24,7 @@ pub(crate) fn segments(rt: &impl Print, input: &[u8]) -> io::Result<()> {
 }
 
 pub(crate) fn pcs(rt: &impl Print, input: &[u8]) -> io::Result<()> {
-    print::listed(
+    print::filled(
         rt,
         "pcs",
         &mut [[9u16; 10]; 3],
@@ -33,7 +33,7 @@ pub(crate) fn pcs(rt: &impl Print, input: &[u8]) -> io::Result<()> {
 }
 
 pub(crate) fn wds(rt: &impl Print, input: &[u8]) -> io::Result<()> {
-    print::listed(
+    print::filled(
         rt,
         "wds",
         &mut [[9u16; 5]; 3],
@@ -65,7 +65,7 @@ pub(crate) fn pds(rt: &impl Print, input: &[u8]) -> io::Result<()> {
     {
         print_colors(rt, entries, pds.palette_id, *named)?;
     }
-    print::records(rt, &list)?;
+    print::list(rt, &list)?;
     println!(rt; "")
 }
 
@@ -75,7 +75,7 @@ pub(crate) fn ods(rt: &impl Print, input: &[u8]) -> io::Result<()> {
 }
 
 pub(crate) fn sets(rt: &impl Print, input: &[u8]) -> io::Result<()> {
-    print::listed(
+    print::filled(
         rt,
         "sets",
         &mut [[9u64; 3]; 3],
@@ -89,17 +89,17 @@ pub(crate) fn objects(rt: &impl Print, input: &[u8], set: u16) -> io::Result<()>
     let mut list = [[9u64; 7]; 3];
     let answer = reassemble_objects(input, usize::from(set), &mut scratch, &mut list);
     print::answer(rt, "objects", answer)?;
-    print::records(rt, &list)?;
-    print::bytes(rt, &scratch)?;
+    print::list(rt, &list)?;
+    print::list(rt, &scratch)?;
     println!(rt; "")
 }
 
 pub(crate) fn cards(rt: &impl Print, input: &[u8]) -> io::Result<()> {
-    print::stored(rt, "cards", &mut [9u8; 71], |out| write_cards(input, out))
+    print::filled(rt, "cards", &mut [9u8; 71], |out| write_cards(input, out))
 }
 
 pub(crate) fn bitmap(rt: &impl Print, input: &[u8], width: u16, height: u16) -> io::Result<()> {
-    print::stored(
+    print::filled(
         rt,
         "bitmap",
         &mut [9u8; 20],
@@ -122,7 +122,7 @@ pub(crate) fn plane(rt: &impl Print, input: &[u8], set: u16) -> io::Result<()> {
     let mut pixels = [9u8; 52];
     let answer = render(input, usize::from(set), &mut scratch, &mut pixels);
     print::answer(rt, "plane", answer)?;
-    print::bytes(rt, &scratch)?;
-    print::bytes(rt, &pixels)?;
+    print::list(rt, &scratch)?;
+    print::list(rt, &pixels)?;
     println!(rt; "")
 }

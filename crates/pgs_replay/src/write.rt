@@ -17,7 +17,7 @@ use std::{array, io};
 
 // The first segments of a stream, written again.
 pub(crate) fn segments(rt: &impl Print, input: &[u8], writes: u16) -> io::Result<()> {
-    print::stored(
+    print::filled(
         rt,
         "writes",
         &mut [9u8; 64],
@@ -45,7 +45,7 @@ pub(crate) fn other(rt: &impl Print, input: &[u8]) -> io::Result<()> {
     }
     let kind = input[8];
     let data = &input[9..];
-    print::stored(
+    print::filled(
         rt,
         "write",
         &mut [9u8; 32],
@@ -60,7 +60,7 @@ pub(crate) fn ods(rt: &impl Print, input: &[u8]) -> io::Result<()> {
     }
     let cells = array::from_fn(|i| u32_at(input, 8 + 4 * i));
     let data = &input[36..];
-    print::stored(rt, "write", &mut [9u8; 40], |out| {
+    print::filled(rt, "write", &mut [9u8; 40], |out| {
         encode_ods(times(input), ods_from(cells)?, data, out)
     })
 }
@@ -70,7 +70,7 @@ pub(crate) fn end(rt: &impl Print, input: &[u8]) -> io::Result<()> {
     if input.len() < 8 {
         return Ok(());
     }
-    print::stored(
+    print::filled(
         rt,
         "write",
         &mut [9u8; 16],
@@ -87,7 +87,7 @@ where
     if let Some(rows) = list.get(..usize::from(count)) {
         print::answer(rt, "write", call(rows, out))?;
     }
-    print::bytes(rt, out)?;
+    print::list(rt, out)?;
     println!(rt; "")
 }
 

@@ -1,18 +1,33 @@
 -- Bytes in a row that are one pixel each.
 -- Assumes nothing.
-use mathlib.Core.Path.{◌≡◌, refl, ◌∙◌, ap, subst}
+use mathlib.Core.Path.{◌≡◌, refl, sym, ◌∙◌, ap, subst}
 use mathlib.Core.Bool.{Bool, true, false, not, ◌&&◌}
-use mathlib.Core.List.{List}
-use Prim.Native.Nat.{ℕ, zero, suc, ◌+◌, ◌-◌, ◌<◌}
+use mathlib.Core.List.{List, [], ◌∷◌}
+use Prim.Native.Nat.{ℕ, zero, suc, ◌+◌, ◌-◌, ◌≤◌, ◌<◌}
+use native.Mathlib.Nat.{zero-add}
 use native.Mathlib.Decide.{dec_lt}
 use native.Mathlib.Omega.{arith}
 use lib.Dec.{eqb}
 use lib.ListN.{length, get_or, take, drop}
-use lib.Seq.{get_or-drop}
+use lib.Seq.{get_or-drop, take-suc}
+use Rattle.std.specs.List.{fold}
+use Rattle.std.proofs.lemmas.List.Sums.{fold-append}
 use Rattle.pgs_base.proofs.Lists.{to_end}
 use borrow.Author.Count.{below_more}
 use borrow.Author.Tests.{eqb-false, not-true}
 use Rattle.pgs_run_length.specs.Literals.{literals, Literals}
+
+-- one byte more is tested
+abbrev pub and_nonzero : Bool → ℕ → Bool
+and_nonzero all byte = all && not (eqb byte 0)
+
+-- the first bytes, tested one after another
+pub literals-folded : (l : List ℕ) (n : ℕ) → n ≤ length l → fold and_nonzero true (take n l) ≡ literals l 0 n
+literals-folded l zero h = refl
+literals-folded l (suc n) h =
+    ap (fold and_nonzero true) (take-suc l n 0 h)
+    ∙ fold-append and_nonzero true (take n l) (get_or l n 0 ∷ [])
+    ∙ (λ i. and_nonzero (literals-folded l n (omega arith) i) (get_or l (sym (zero-add n) i) 0))
 
 module _ (l : List ℕ) (at : ℕ) where
   pub literals-none : Literals l at 0

@@ -1,2 +1,3 @@
 pub mod HeaderLaws
+pub mod PartLaws
 pub mod SegmentLaws

@@ -1,7 +1,7 @@
 -- A segment's fields. 01, module 3: "Each state and flag byte is kept, so that no two read alike ... A segment's fields are PTS, DTS,
 -- the kind's byte, and all values and data bytes named here or kept of an unknown kind; places are not fields."
 -- The kind's byte is that of the body's case; only an unknown kind carries one.
-use Rattle.std.specs.Prelude.{ℕ, List, length, take, drop, eqb}
+use Rattle.std.specs.Prelude.{ℕ, ◌≡◌, List, length, take, drop, eqb}
 use Rattle.pgs_views.specs.Kinds.{raw_of}
 use Rattle.pgs_base.specs.Outcome.{Verdict, accepted, unless}
 use Rattle.pgs_ods.specs.OdsBody.{ods_of, ods_data, ods_verdict, ods_list}
@@ -74,6 +74,14 @@ body_list (kinds.Other v) b = record { count = 0; start = 0; len = length b }
 -- the bytes of that part of the body
 abbrev pub part_of : BodyList → List ℕ → List ℕ
 part_of p b = take p.len (drop p.start b)
+
+-- 01, 'Forms that must be recast': "a kind with numbers, and places in the stream beside it": at the place that is answered for an ODS or
+-- for an unknown kind, its data stands. `proofs/PartLaws.antt` has the proofs
+abbrev pub OdsPart : Type 0
+OdsPart = (b : List ℕ) → part_of (body_list kinds.Ods b) b ≡ ods_data b
+
+abbrev pub OtherPart : Type 0
+OtherPart = (v : ℕ) (b : List ℕ) → part_of (body_list (kinds.Other v) b) b ≡ b
 
 -- the kind and the numbers alone, without the list or the data
 abbrev pub numbers_of : BodyFields → SegmentBody

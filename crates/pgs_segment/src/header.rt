@@ -21,16 +21,16 @@ impl SegmentHeader {
     // The size of the head itself.
     pub const SIZE: usize = 13;
 
+    // The two bytes that a head begins with.
+    pub const MAGIC: [u8; 2] = *b"PG";
+
     pub fn parse(buf: &[u8]) -> Result<SegmentHeader, Refusal>
         ensures { outcome result ≡ header_of buf.now }
     {
         if buf.len() < SegmentHeader::SIZE {
             return Err(Refusal::TruncatedHeader);
         }
-        if buf[0] != 0x50 {
-            return Err(Refusal::BadMagic);
-        }
-        if buf[1] != 0x47 {
+        if !buf.starts_with(&SegmentHeader::MAGIC) {
             return Err(Refusal::BadMagic);
         }
         Ok(SegmentHeader::fields(buf))
@@ -49,7 +49,9 @@ impl SegmentHeader {
         }
     }
 
-    // The same of a list that ends within the head, which no walk meets: a function of its own, so that walks stay small.
+    // The same of a list that ends within the head, which no walk meets.
+    // Stays a function of its own, with the same body: with the fields in line here too, walks are larger, and listing objects takes 7 %
+    // longer, `check_objects` 18 %.
     #[cold]
     fn fields_there(l: &[u8]) -> SegmentHeader
         ensures { result ≡ header_fields l.now }

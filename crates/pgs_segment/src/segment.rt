@@ -50,11 +50,7 @@ fn check_end(body: &[u8]) -> Result<BodyList, Refusal>
     if body.len() != 0 {
         return Err(Refusal::NonEmptyEnd);
     }
-    Ok(BodyList {
-        count: 0,
-        start: 0,
-        len: 0,
-    })
+    Ok(BodyList::default())
 }
 
 // Whether a body of this kind is whole, and where its list or its data stands.
@@ -68,9 +64,8 @@ fn check_body(kind: SegmentType, body: &[u8]) -> Result<BodyList, Refusal>
         SegmentType::Wds => check_wds(body),
         SegmentType::End => check_end(body),
         SegmentType::Other(_) => Ok(BodyList {
-            count: 0,
-            start: 0,
             len: body.len(),
+            ..BodyList::default()
         }),
     }
 }
@@ -107,12 +102,10 @@ pub fn check_segment(buf: &[u8]) -> Result<Frame, Refusal>
     ensures { outcome result ≡ outcome_of (segment_verdict buf.now) (frame_of buf.now) }
 {
     let header = SegmentHeader::parse(buf)?;
-    let used = header.used();
-    if buf.len() < used {
-        return Err(Refusal::TruncatedBody);
-    }
-    let kind = header.kind();
-    let list = check_body(kind, &buf[SegmentHeader::SIZE..used])?;
+    let body = buf
+        .get(SegmentHeader::SIZE..header.used())
+        .ok_or(Refusal::TruncatedBody)?;
+    let list = check_body(header.kind(), body)?;
     Ok(Frame { header, list })
 }
 

@@ -3,34 +3,29 @@
 #![tactic(auto)]
 
 ghost use Rattle.pgs_base.specs.Outcome.{outcome, Delivered};
+ghost use Rattle.pgs_stream.specs.Segments.{placed_record};
 ghost use Rattle.pgs_stream.specs.Stream.{segment_count, stream_verdict};
 ghost use Rattle.pgs_segment_list.specs.Segments.{record_at, segment_records};
 
+use pgs_base::record::FromRecord;
 use pgs_base::refusal::Refusal;
 use pgs_segment::header::SegmentHeader;
-use pgs_stream::stream::FromHeader;
+use pgs_stream::segments::PlacedSegment;
 
 // A segment's record: its place in the stream, and its head.
 #[derive(Clone, Copy, Debug, PartialEq, Eq)]
 pub struct SegmentRecord {
     pub place: usize,
-    pub pts: u32,
-    pub dts: u32,
-    // Stays a byte, as in the head
-    pub segment_type: u8,
-    pub segment_size: u16,
+    pub header: SegmentHeader,
 }
 
-impl FromHeader for SegmentRecord {
-    ghost from_header = { record_at };
+impl FromRecord<PlacedSegment> for SegmentRecord {
+    ghost from_record = { placed_record record_at };
 
-    fn from_header(at: usize, header: SegmentHeader) -> SegmentRecord {
+    fn from_record(item: PlacedSegment) -> SegmentRecord {
         SegmentRecord {
-            place: at,
-            pts: header.pts,
-            dts: header.dts,
-            segment_type: header.segment_type,
-            segment_size: header.segment_size,
+            place: item.at,
+            header: item.header,
         }
     }
 }
@@ -43,6 +38,8 @@ pub fn parse_segments(s: &[u8], list: &mut [SegmentRecord]) -> Result<usize, Ref
 }
 
 // A list of eight records by value, and what a call that was lent it answered.
+// Stays eight, not `const N: usize`: it shows that a list may be passed by value; whoever wants another length lends an array to
+// `parse_segments`, which takes any length.
 #[derive(Clone, Copy, Debug, PartialEq, Eq)]
 pub struct Eight {
     pub answer: Result<usize, Refusal>,

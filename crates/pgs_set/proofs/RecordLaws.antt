@@ -6,7 +6,7 @@ use Prim.Native.Nat.{ℕ, zero, suc, ◌+◌, ◌≤◌, ◌<◌}
 use native.Mathlib.Omega.{arith}
 use borrow.Author.Tests.{leb-true, leb-false}
 use lib.Dec.{leb}
-use lib.ListN.{length, drop, get_or}
+use lib.ListN.{length, drop, get_or, length-map}
 use Rattle.pgs_base.specs.Outcome.{accepted}
 use Rattle.pgs_base.proofs.Outcomes.{first-accepts, second_holds}
 use Rattle.pgs_segment.specs.Header.{pts_of, header_fields}
@@ -15,15 +15,11 @@ use Rattle.pgs_stream.specs.Stream.{stream_verdict}
 use Rattle.pgs_set.proofs.SegmentLaws.{segments-end}
 use Rattle.pgs_set.proofs.SetLaws.{outside-here, opens-here, set_here, sets-after, set-ends}
 use Rattle.pgs_set.proofs.WalkLaws.{head-field, pieces_end}
-use Rattle.pgs_set.specs.Records.{set_records}
-use Rattle.pgs_set.specs.Sets.{DisplaySet, no_set, sets_from, sets_of, set_count, set_number, set_record, set_row, set_rows, sets_verdict}
+use Rattle.pgs_set.specs.Records.{record_row, set_records, RowsOfRecords}
+use Rattle.pgs_set.specs.Sets.{DisplaySet, no_set, sets_from, sets_of, set_count, set_number, set_record, set_row, sets_verdict}
 use Rattle.pgs_set.specs.Walks.{pieces_at, Standing, Ends, SetBegins, SetStands, set_at}
 use Rattle.pgs_set.specs.declared.grouping.Grouping.TheVariants.{Outside}
 use Rattle.pgs_set.specs.declared.set.SetRecord.{SetRecord}
-
--- the record of a set as a row of cells
-abbrev pub record_row : SetRecord → List ℕ
-record_row r = r.place ∷ r.end ∷ r.pts ∷ []
 
 -- the sets of an accepted stream
 pub stream-stands : (s : List ℕ) → sets_verdict s ≡ accepted → Standing Outside s 0
@@ -106,8 +102,12 @@ module _ (s : List ℕ) (e : sets_verdict s ≡ accepted) where
       let st = all-stand k h in
       record { standing = st.0.standing; more = st.0.more; found = st.1 }
 
+-- as many records as sets
+pub set-records : {A : Type 0} (made : SetRecord → A) (s : List ℕ) → length (map made (set_records s)) ≡ set_count s
+set-records made s = length-map (set_records s) made ∙ length-map (sets_of s) set_record
+
 -- the rows of the sets are those of their records
-pub rows-of-records : (s : List ℕ) → map record_row (set_records s) ≡ set_rows s
+pub rows-of-records : RowsOfRecords
 rows-of-records s = go (sets_of s)
   where
     go : (ds : List DisplaySet) → map record_row (map set_record ds) ≡ map set_row ds

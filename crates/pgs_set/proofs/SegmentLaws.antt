@@ -12,7 +12,7 @@ use Rattle.pgs_segment.specs.declared.header.SegmentHeader.{SegmentHeader}
 use Rattle.pgs_stream.specs.Stream.{step_verdict, records_from}
 use Rattle.pgs_views.specs.Kinds.{type_of}
 use Rattle.pgs_views.specs.declared.segment_type.SegmentType.{SegmentType}
-use Rattle.pgs_set.proofs.SetLaws.{Passing, passing, passes_on, passed, passes-read, inside_on, inside-here, inside-more, kind-read, size-read}
+use Rattle.pgs_set.proofs.SetLaws.{Passing, passing, passes_on, passed, inside_on, inside-here, inside-more, kind-read}
 use Rattle.pgs_set.proofs.WalkLaws.{pieces-here, piece-head, piece-length, type-of-piece, within-here}
 use Rattle.pgs_set.specs.Sets.{is_end, through_end}
 use Rattle.pgs_set.specs.Walks.{pieces_at, InSet, Ends}
@@ -48,23 +48,20 @@ module _ (s : List ℕ) (at : ℕ) (ok : step_verdict (drop at s) ≡ accepted) 
       segments-here
       ∙ ap (λ (b : Bool). placed at (header_fields (drop at s)) ∷ pick b [] (set_segments s (at + used_by (drop at s)))) e
 
--- by the head that was read
-module _ (s : List ℕ) {at : ℕ} (i : InSet s at) {h : SegmentHeader} {t : SegmentType} {b : Bool}
-    (e : h ≡ header_fields (drop at s)) (q : t ≡ type_of h.segment_type) (r : b ≡ is_end t) where
+-- by the segment that was read
+module _ (s : List ℕ) {at : ℕ} (i : InSet s at) {x : PlacedSegment} {t : SegmentType} {b : Bool}
+    (e : x ≡ placed at (header_fields (drop at s))) (q : t ≡ type_of x.header.segment_type) (r : b ≡ is_end t) where
   its-end : is_end (segment_type (drop at s)) ≡ b
-  its-end = sym (r ∙ ap is_end (kind-read (drop at s) e q))
+  its-end = sym (r ∙ ap is_end (kind-read (drop at s) (ap (λ (y : PlacedSegment). y.header) e) q))
 
-  its-place : placed at h ≡ placed at (header_fields (drop at s))
-  its-place = ap (placed at) e
+  pub first-last : b ≡ true → set_segments s at ≡ x ∷ []
+  first-last f = rw e (here-last s at (inside-here s i) (its-end ∙ f))
 
-  pub first-last : b ≡ true → set_segments s at ≡ placed at h ∷ []
-  first-last f = rw its-place (here-last s at (inside-here s i) (its-end ∙ f))
+  pub first-more : b ≡ false → set_segments s at ≡ x ∷ set_segments s x.end
+  first-more f = rw e (here-more s at (inside-here s i) (its-end ∙ f))
 
-  pub first-more : b ≡ false → set_segments s at ≡ placed at h ∷ set_segments s (at + (13 + h.segment_size))
-  first-more f = rw (its-place, size-read (drop at s) e) (here-more s at (inside-here s i) (its-end ∙ f))
-
-  pub opens-on : b ≡ false → InSet s (at + (13 + h.segment_size))
-  opens-on f = (passes-read s (passing s i) e q r f).in_set
+  pub opens-on : b ≡ false → InSet s x.end
+  opens-on f = rw e (inside_on s i (its-end ∙ f))
 
 -- this segment stands in the stream
 pub record Stands (s : List ℕ) (x : PlacedSegment) : Type 0 where

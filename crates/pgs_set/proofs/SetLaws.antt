@@ -6,7 +6,7 @@ use Prim.Native.Nat.{ℕ, ◌+◌, ◌≤◌, ◌<◌}
 use native.Mathlib.Omega.{arith}
 use borrow.Author.Tests.{leb-true, leb-false}
 use lib.Dec.{leb}
-use lib.ListN.{length, take, drop, get_or, length-drop, length-map}
+use lib.ListN.{length, take, drop, get_or, length-drop}
 use Rattle.pgs_base.specs.Outcome.{Verdict, accepted, refused, gives, refuses, outcome_of, and_then, pick}
 use Rattle.pgs_base.proofs.Outcomes.{gave, gave-value, turned_down}
 use Rattle.pgs_segment.specs.Header.{header_fields}
@@ -20,8 +20,7 @@ use Rattle.pgs_views.specs.declared.segment_type.SegmentType.TheVariants.{Pds, O
 use Rattle.pgs_set.proofs.Choices.{pick_first, pick_second}
 use Rattle.pgs_set.proofs.WalkLaws.{step-here, pieces-here, pieces_end, stands_on, kind-accepted, type-of-piece, piece-length}
 use Rattle.pgs_set.specs.Sets.{DisplaySet, no_set, group_verdict, kind_verdict, state_after, is_pcs, is_end, opens}
-use Rattle.pgs_set.specs.Sets.{through_end, bytes_in, sets_from, sets_of, set_count, sets_verdict, end_of, set_row}
-use Rattle.pgs_set.specs.Sets.{set_rows}
+use Rattle.pgs_set.specs.Sets.{through_end, bytes_in, sets_from, sets_of, set_count, sets_verdict, end_of}
 use Rattle.pgs_set.specs.Walks.{pieces_at, Standing, InSet, Ends, end_from, set_at}
 use Rattle.pgs_set.specs.declared.grouping.Grouping.{Grouping}
 use Rattle.pgs_set.specs.declared.grouping.Grouping.TheVariants.{Outside, Inside}
@@ -160,11 +159,6 @@ module _ (s : List ℕ) where
         empty [] e = refl
         empty (x ∷ xs) e = absurd (omega arith)
 
--- a refusal answers no value
-pub refusal-alone : (v : Verdict) (k a b : ℕ) → outcome_of (and_then v (refused k)) a ≡ outcome_of (and_then v (refused k)) b
-refusal-alone accepted k a b = refl
-refusal-alone (refused m) k a b = refl
-
 -- a set that is open goes on after a segment that is no END
 pub goes_on : (w : Bool) (t : SegmentType) → is_end t ≡ false → (w' : Bool) × (state_after (Inside w) t ≡ Inside w')
 goes_on w Pcs e = (false, refl)
@@ -257,14 +251,6 @@ module _ (s : List ℕ) where
           on = omega (arith, p.on);
         }
 
-    -- by the head that was read
-    module _ {h : SegmentHeader} {t : SegmentType} {b : Bool} (e : h ≡ header_fields (drop at s)) (q : t ≡ type_of h.segment_type) (r : b ≡ is_end t) where
-      its-end : b ≡ is_end (segment_type (drop at s))
-      its-end = r ∙ ap is_end (kind-read (drop at s) e q)
-
-      pub passes-read : b ≡ false → Passing s from (at + (13 + h.segment_size))
-      passes-read f = rw (size-read (drop at s) e) (passes_on (sym its-end ∙ f))
-
   -- a set to come begins here with its PCS
   module _ {at : ℕ} (st : Standing Outside s at) where
     pub outside-here : at < length s → step_verdict (drop at s) ≡ accepted
@@ -305,7 +291,3 @@ module _ (s : List ℕ) where
             e.place
             ∙ ap (λ (n : ℕ). at + n + bytes_in (through_end (pieces_at s (at + used_by (drop at s))))) (sym (piece-length (drop at s) (outside-here h)))
             ∙ ap end_of (sym set_here)
-
--- a record for each set
-pub set-rows : (s : List ℕ) → length (set_rows s) ≡ set_count s
-set-rows s = length-map (sets_of s) set_row

@@ -1,11 +1,12 @@
 -- Display sets. The mission: "A display set is the run of segments from a PCS to its END." 01, module 6: "Set records (place of PCS,
 -- place just after END, PTS of the PCS) fill a caller's list", and "reads the whole stream first, so 1 to 7 anywhere come before 8 to
 -- 15".
-use Rattle.std.specs.Prelude.{ℕ, ◌+◌, Bool, true, false, List, [], ◌∷◌, map, length, get_or, ltb}
+use Rattle.std.specs.Prelude.{ℕ, ◌+◌, true, false, List, [], ◌∷◌, map, length, get_or, ltb}
 use Rattle.pgs_base.specs.Outcome.{Verdict, accepted, refused, and_then, unless, pick}
 use Rattle.pgs_segment.specs.Header.{pts_of}
 use Rattle.pgs_segment.specs.OneSegment.{segment_type}
 use Rattle.pgs_stream.specs.Stream.{read_of, stream_verdict}
+pub use Rattle.pgs_views.specs.Kinds.{is_pcs, is_end}
 use Rattle.pgs_views.specs.declared.segment_type.SegmentType.{SegmentType}
 use Rattle.pgs_views.specs.declared.segment_type.SegmentType.TheVariants.{Pds, Ods, Pcs, Wds, End, Other}
 use Rattle.pgs_set.specs.declared.grouping.Grouping.{Grouping}
@@ -42,22 +43,6 @@ abbrev pub group_verdict : Grouping → List (List ℕ) → Verdict
 group_verdict Outside [] = accepted
 group_verdict (Inside w) [] = refused 15
 group_verdict g (x ∷ xs) = and_then (kind_verdict g (segment_type x)) (group_verdict (state_after g (segment_type x)) xs)
-
-abbrev pub is_pcs : SegmentType → Bool
-is_pcs Pcs = true
-is_pcs Wds = false
-is_pcs Pds = false
-is_pcs Ods = false
-is_pcs End = false
-is_pcs (Other v) = false
-
-abbrev pub is_end : SegmentType → Bool
-is_end End = true
-is_end Pcs = false
-is_end Wds = false
-is_end Pds = false
-is_end Ods = false
-is_end (Other v) = false
 
 -- a display set: its PCS with its place in the stream, and the segments after it, its END the last
 pub record DisplaySet : Type 0 where

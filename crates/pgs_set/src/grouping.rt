@@ -11,14 +11,14 @@ use pgs_views::segment_type::SegmentType;
 #[derive(Clone, Copy, Debug, PartialEq, Eq)]
 pub enum Grouping {
     Outside,
-    Inside(bool),
+    Inside { windows: bool },
 }
 
 fn group_outside(kind: SegmentType) -> Result<Grouping, Refusal>
     ensures { outcome result ≡ outcome_of (kind_verdict Grouping.Outside kind) (state_after Grouping.Outside kind) }
 {
     match kind {
-        SegmentType::Pcs => Ok(Grouping::Inside(false)),
+        SegmentType::Pcs => Ok(Grouping::Inside { windows: false }),
         SegmentType::Wds => Err(Refusal::WdsOutsideSet),
         SegmentType::Pds => Err(Refusal::PdsOutsideSet),
         SegmentType::Ods => Err(Refusal::OdsOutsideSet),
@@ -36,13 +36,13 @@ fn group_inside(windows: bool, kind: SegmentType) -> Result<Grouping, Refusal>
             if windows {
                 Err(Refusal::SecondWds)
             } else {
-                Ok(Grouping::Inside(true))
+                Ok(Grouping::Inside { windows: true })
             }
         }
         SegmentType::End => Ok(Grouping::Outside),
-        SegmentType::Pds | SegmentType::Ods | SegmentType::Other(_) => Ok(Grouping::Inside(
-            windows,
-        )),
+        SegmentType::Pds | SegmentType::Ods | SegmentType::Other(_) => {
+            Ok(Grouping::Inside { windows })
+        }
     }
 }
 
@@ -52,6 +52,6 @@ pub fn group_segment(state: Grouping, kind: SegmentType) -> Result<Grouping, Ref
 {
     match state {
         Grouping::Outside => group_outside(kind),
-        Grouping::Inside(windows) => group_inside(windows, kind),
+        Grouping::Inside { windows } => group_inside(windows, kind),
     }
 }

@@ -1,12 +1,23 @@
 // A display set at its place in a stream, and open behind its PCS.
-ghost use Rattle.std.specs.Prelude.{◌≡◌, ◌+◌, drop};
+ghost use Rattle.std.specs.Prelude.{◌≡◌, ◌+◌, ◌<◌, drop, length};
+ghost use Rattle.pgs_base.specs.Outcome.{accepted};
 ghost use Rattle.pgs_segment.specs.Header.{header_fields};
 ghost use Rattle.pgs_segment.specs.OneSegment.{used_by};
 ghost use Rattle.pgs_stream.specs.Segments.{placed};
+ghost use Rattle.pgs_stream.specs.Stream.{stream_verdict};
 ghost use Rattle.pgs_set.specs.Walks.{InSet, Ends, SetBegins};
 
-use pgs_segment::header::header_at;
-use pgs_stream::segments::PlacedSegment;
+use pgs_stream::segments::{PlacedSegment, Segments};
+
+// The segment at a place where an accepted stream has one.
+pub(crate) fn segment_at(s: &[u8], at: usize) -> PlacedSegment
+    requires stream_good { stream_verdict (drop at s.now) ≡ accepted }
+    requires place_bound { at < length s.now }
+    ensures { result ≡ placed at (header_fields (drop at s.now)) }
+{
+    // it is the first from there on
+    Segments { stream: s, at }.next().unwrap()
+}
 
 // The segments of a display set from a place on, in a stream that is accepted from there on: the set is open at that place.
 #[derive(Clone, Copy, Debug)]
@@ -31,14 +42,12 @@ impl<'a> PlacedSet<'a> {
         ensures stream_value { result.1.stream.now ≡ self.entry.stream.now }
         ensures from_value { result.1.from ≡ self.entry.place + used_by (drop self.entry.place self.entry.stream.now) }
     {
-        let at = self.place;
-        let header = header_at(self.stream, at);
-        let end = at + header.used();
+        let pcs = segment_at(self.stream, self.place);
         let others = OpenSet {
             stream: self.stream,
-            from: end,
+            from: pcs.end,
         };
-        (PlacedSegment { at, header, end }, others)
+        (pcs, others)
     }
 
     // The set behind its PCS.

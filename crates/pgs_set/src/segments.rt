@@ -3,9 +3,7 @@ ghost use Rattle.std.specs.Prelude.{◌≡◌, ◌∷◌};
 ghost use Rattle.std.specs.Iterator.{YieldsFirst, item_count};
 ghost use Rattle.pgs_set.specs.Segments.{rest_of, set_segments, set_segments_left};
 
-use crate::open_set::OpenSet;
-use crate::set::is_end;
-use pgs_segment::header::header_at;
+use crate::open_set::{OpenSet, segment_at};
 use pgs_stream::segments::PlacedSegment;
 
 impl<'a> OpenSet<'a> {
@@ -13,16 +11,13 @@ impl<'a> OpenSet<'a> {
     fn split_first(self) -> (PlacedSegment, Option<OpenSet<'a>>)
         ensures { set_segments self.entry.stream.now self.entry.from ≡ result.0 ∷ rest_of result.1 }
     {
-        let at = self.from;
-        let header = header_at(self.stream, at);
-        let end = at + header.used();
-        let segment = PlacedSegment { at, header, end };
-        if is_end(header.kind()) {
+        let segment = segment_at(self.stream, self.from);
+        if segment.header.kind().is_end() {
             return (segment, None);
         }
         let rest = OpenSet {
             stream: self.stream,
-            from: end,
+            from: segment.end,
         };
         (segment, Some(rest))
     }

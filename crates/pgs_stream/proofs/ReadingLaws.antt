@@ -5,33 +5,26 @@ use mathlib.Core.Bool.{Bool, true, false}
 use mathlib.Core.List.{List, [], ◌∷◌, ◌++◌, map, append_assoc}
 use Prim.Native.Nat.{ℕ, zero, suc, ◌+◌, ◌≤◌}
 use native.Mathlib.Omega.{arith}
-use lib.ListN.{length, take, drop, get_or, length-drop, length-append, take-append-drop}
-use lib.Seq.{drop-drop, length-take-le, get_or-take, take-length}
+use lib.ListN.{length, take, drop, length-drop, take-append-drop}
+use lib.Seq.{drop-drop, length-take-le, get_or-take}
 use borrow.Author.Tests.{le-leb}
 use Rattle.pgs_base.specs.Bytes.{num, Bytes}
 use Rattle.pgs_views.specs.Kinds.{type_of, raw_of}
 use Rattle.pgs_base.specs.Outcome.{accepted, is_accepted}
 use Rattle.pgs_base.proofs.Bytes.{num-take}
 use Rattle.pgs_base.proofs.Digits.{bytes_take, bytes_drop}
-use Rattle.pgs_base.proofs.Lists.{to_end, drop-take}
+use Rattle.pgs_base.proofs.Lists.{drop-take}
 use Rattle.pgs_base.proofs.Outcomes.{is-accepted, first-accepts}
 use Rattle.pgs_views.proofs.Views.{raw-type}
-use Rattle.pgs_segment.specs.Fields.{kind_byte, body_verdict, body_of, body_list, part_of}
+use Rattle.pgs_segment.specs.Fields.{kind_byte, body_verdict, body_of}
 use Rattle.pgs_segment.specs.Header.{size_of, marked}
-use Rattle.pgs_ods.specs.OdsBody.{ods_data, ods_list, head_size, flag_of}
 use Rattle.pgs_segment.specs.OneSegment.{segment_type, used_by, body_at, segment_verdict, fields_of}
-use Rattle.pgs_stream.specs.Stream.{step_verdict, before, read_first, read_of, stopped_by, stop_place, stream_verdict, joined, segment_row, head_row, records_from, records_of, segment_rows}
+use Rattle.pgs_stream.specs.Stream.{step_verdict, before, read_first, read_of, stopped_by, stream_verdict, joined, segment_row, head_row}
+use Rattle.pgs_stream.specs.Stream.{records_from, records_of, body_by_row, RowsLead}
 use Rattle.pgs_views.specs.declared.segment_type.SegmentType.{SegmentType}
 use Rattle.pgs_views.specs.declared.segment_type.SegmentType.TheVariants as kinds
 use Rattle.pgs_segment.proofs.SegmentLaws.{has-header, accepted-head, accepted-size, accepted-body, accepted-mark}
 use Rattle.pgs_stream.proofs.StreamLaws.{step-within}
-
--- the part that an answer names is the data
-pub ods-part : (b : List ℕ) → part_of (ods_list b) b ≡ ods_data b
-ods-part b = to_end (head_size (flag_of b)) b
-
-pub other-part : (v : ℕ) (b : List ℕ) → part_of (body_list (kinds.Other v) b) b ≡ b
-other-part v b = take-length b
 
 -- the kind's byte of a body that was read is the byte that was read
 pub kind-byte : (v : ℕ) (b : List ℕ) → kind_byte (body_of (type_of v) b) ≡ v
@@ -91,10 +84,6 @@ accepted-rest s e = go (read_of s).rest e (rest-stops s)
     go : (r : List ℕ) → stopped_by r ≡ accepted → is_accepted (step_verdict r) ≡ false → r ≡ []
     go [] p q = refl
     go (x ∷ r) p q = let z : true ≡ false = sym (ap is_accepted p) ∙ q in cc
-
-pub stop-place : (s : List ℕ) → stop_place s ≡ length (joined (read_of s).pieces)
-stop-place s =
-    omega (arith, ap length (pieces-joined s), length-append (joined (read_of s).pieces) (read_of s).rest)
 
 -- a segment depends on its own bytes alone
 module _ (l : List ℕ) (e : segment_verdict l ≡ accepted) where
@@ -160,10 +149,6 @@ pub pieces_whole : (s : List ℕ) → Each Whole (read_of s).pieces
 unfolding read_of
 pieces_whole s = pieces-first (length s) s
 
--- the body that a record names, by its place and its length
-abbrev pub body_by_row : List ℕ → List ℕ → List ℕ
-body_by_row s r = take (get_or r 4 0) (drop (get_or r 0 0 + 13) s)
-
 rows-first : (s : List ℕ) (n at : ℕ) (l : List ℕ) → drop at s ≡ l
     → map (body_by_row s) (records_from head_row at (read_first n l).pieces) ≡ map body_at (read_first n l).pieces
 rows-first s zero at l q = refl
@@ -186,7 +171,7 @@ rows-first s (suc n) at l q =
     go false e ih = rw (first_stops n l e)
 
 -- each record of a stream's list leads to the body of its segment
-pub rows-lead : (s : List ℕ) → map (body_by_row s) (segment_rows s) ≡ map body_at (read_of s).pieces
+pub rows-lead : RowsLead
 unfolding records_of read_of
 rows-lead s = rows-first s (length s) 0 s refl
 

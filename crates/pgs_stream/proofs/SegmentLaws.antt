@@ -10,9 +10,9 @@ use Rattle.pgs_base.specs.Outcome.{accepted}
 use Rattle.pgs_base.proofs.Outcomes.{not-both, not-refused}
 use Rattle.pgs_segment.specs.Header.{header_fields}
 use Rattle.pgs_segment.specs.OneSegment.{used_by}
-use Rattle.pgs_segment.specs.declared.header.SegmentHeader.{SegmentHeader}
 use Rattle.pgs_stream.specs.Stream.{Reading, step_verdict, before, read_of, stopped_by, stream_verdict, records_from, records_of}
-use Rattle.pgs_stream.specs.Segments.{placed, placed_record, segments_from}
+use Rattle.pgs_stream.specs.Segments.{placed, of_placed, segments_from}
+use Rattle.pgs_stream.specs.declared.segments.PlacedSegment.{PlacedSegment}
 use Rattle.pgs_stream.proofs.StreamLaws.{step-within, read-on, read-stops, stopped-at, piece-head}
 
 -- past the end nothing is left
@@ -47,10 +47,10 @@ module _ (s : List ℕ) {at : ℕ} (good : stream_verdict (drop at s) ≡ accept
       (read_of (drop (at + used_by (drop at s)) s)).pieces)
 
 -- the records of the segments of a whole stream are those of the stream
-pub placed-records : {A : Type 0} (made : ℕ → SegmentHeader → A) (s : List ℕ) → map (placed_record made) (segments_from s 0) ≡ records_of made s
+pub placed-records : {A : Type 0} (made : PlacedSegment → A) (s : List ℕ) → map made (segments_from s 0) ≡ records_of (of_placed made) s
 unfolding records_of
 placed-records made s = go 0 (read_of s).pieces
   where
-    go : (at : ℕ) (xs : List (List ℕ)) → map (placed_record made) (records_from placed at xs) ≡ records_from made at xs
+    go : (at : ℕ) (xs : List (List ℕ)) → map made (records_from placed at xs) ≡ records_from (of_placed made) at xs
     go at [] = refl
-    go at (x ∷ xs) = ap (λ (rs : List _). made at (header_fields x) ∷ rs) (go (at + length x) xs)
+    go at (x ∷ xs) = ap (λ (rs : List _). of_placed made at (header_fields x) ∷ rs) (go (at + length x) xs)

@@ -9,9 +9,12 @@ use Rattle.pgs_stream.specs.declared.segments.Segments.{Segments}
 abbrev pub placed : ℕ → SegmentHeader → PlacedSegment
 placed at h = record { at = at; header = h; end = at + (13 + h.segment_size) }
 
--- the record of a segment, where `made` is that of a segment with a head at a place
+-- the record of a segment, where `made` is that of a segment with a head at a place; and the reverse
 abbrev pub placed_record : {A : Type 0} → (ℕ → SegmentHeader → A) → PlacedSegment → A
 placed_record made p = made p.at p.header
+
+abbrev pub of_placed : {A : Type 0} → (PlacedSegment → A) → ℕ → SegmentHeader → A
+of_placed made at h = made (placed at h)
 
 -- the segments of a stream from a place on
 abbrev pub segments_from : List ℕ → ℕ → List PlacedSegment

@@ -1,10 +1,10 @@
 -- A stream of segments. 01, module 4: "The stream answer is a count and a caller's list of segment records, filled from the front
 -- (place, PTS, DTS, kind, body length). An empty stream has none."
-use Rattle.std.specs.Prelude.{ℕ, zero, suc, ◌+◌, ◌-◌, List, [], ◌∷◌, ◌++◌, map, length, take, drop, ltb}
+use Rattle.std.specs.Prelude.{ℕ, zero, suc, ◌+◌, ◌≡◌, List, [], ◌∷◌, ◌++◌, map, length, take, drop, get_or, ltb}
 use Rattle.pgs_base.specs.Outcome.{Verdict, accepted, and_then, unless, pick, is_accepted}
 use Rattle.pgs_segment.specs.Fields.{SegmentFields}
 use Rattle.pgs_segment.specs.Header.{header_fields}
-use Rattle.pgs_segment.specs.OneSegment.{segment_verdict, used_by, fields_of}
+use Rattle.pgs_segment.specs.OneSegment.{segment_verdict, used_by, body_at, fields_of}
 use Rattle.pgs_segment.specs.declared.header.SegmentHeader.{SegmentHeader}
 
 -- a stream that was read from the front: the bytes of each segment, tail included, and the rest, which is empty or begins with a
@@ -35,10 +35,6 @@ read_of s = read_first (length s) s
 abbrev pub stopped_by : List ℕ → Verdict
 stopped_by [] = accepted
 stopped_by (b ∷ bs) = step_verdict (b ∷ bs)
-
--- the place where it stopped
-abbrev pub stop_place : List ℕ → ℕ
-stop_place s = length s - length (read_of s).rest
 
 -- a stream is accepted when the end stopped the reading
 abbrev pub stream_verdict : List ℕ → Verdict
@@ -76,3 +72,11 @@ records_of made s = records_from made 0 (read_of s).pieces
 -- as rows of cells
 abbrev pub segment_rows : List ℕ → List (List ℕ)
 segment_rows s = records_of head_row s
+
+-- the body that a row names, by its place and its length
+abbrev pub body_by_row : List ℕ → List ℕ → List ℕ
+body_by_row s r = take (get_or r 4 0) (drop (get_or r 0 0 + 13) s)
+
+-- "place .. body length": the row of each segment leads to its body. `proofs/ReadingLaws.antt` has the proof
+abbrev pub RowsLead : Type 0
+RowsLead = (s : List ℕ) → map (body_by_row s) (segment_rows s) ≡ map body_at (read_of s).pieces

@@ -17,6 +17,8 @@ pub struct PlacedSegment {
 
 impl PlacedSegment {
     // Its body, in the stream that it is of; of a shorter list, what there is of it.
+    // Stays a function of the stream: an item that holds the stream would have to promise of each that it is of that very stream, which is
+    // no plainer than to hand the stream over.
     pub fn body<'a>(self, stream: &'a [u8]) -> &'a [u8]
         ensures { result.now ≡ take (self.end - (self.at + 13)) (drop (self.at + 13) stream.now) }
     {

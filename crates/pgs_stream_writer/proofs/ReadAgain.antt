@@ -4,7 +4,7 @@ use Rattle.std.specs.Prelude.{Option, None, Some}
 use mathlib.Core.Path.{◌≡◌, refl, sym, ap, ◌∙◌}
 use mathlib.Core.Bool.{Bool, true, false}
 use mathlib.Core.List.{List, [], ◌∷◌, ◌++◌, map}
-use Prim.Native.Nat.{ℕ, ◌+◌, ◌-◌, ◌≤◌}
+use Prim.Native.Nat.{ℕ, ◌≤◌}
 use native.Mathlib.Omega.{arith}
 use borrow.Author.Tests.{le-leb}
 use lib.ListN.{length, take, drop, length-append, length-map}
@@ -12,14 +12,9 @@ use lib.Seq.{take_at}
 use Rattle.pgs_base.specs.Outcome.{Verdict, accepted, Outcome, gives, refuses, unless, laid, Delivered, pick}
 use Rattle.pgs_base.proofs.Outcomes.{not-both, delivered, delivered-refusal, delivered-value}
 use Rattle.pgs_views.specs.declared.segment_type.SegmentType.TheVariants as kinds
-use Rattle.pgs_views.specs.Kinds.{type_of}
-use Rattle.pgs_views.specs.declared.segment_type.SegmentType.{SegmentType}
-use Rattle.pgs_segment.specs.Fields.{pcs, wds, pds, SegmentFields, body_of}
-use Rattle.pgs_segment.specs.Header.{size_of, header_fields}
-use Rattle.pgs_segment.specs.OneSegment.{segment_type, fields_of}
-use Rattle.pgs_segment.specs.declared.header.SegmentHeader.{SegmentHeader}
+use Rattle.pgs_segment.specs.Fields.{pcs, wds, pds, SegmentFields}
 use Rattle.pgs_pcs.specs.PcsBody.{placement_of, placement_size, placement_row, placement_rows, placement_count, placements_of, pcs_of}
-use Rattle.pgs_pds.specs.PdsBody.{entry_of, entry_size, entry_row, entry_count, entries_of, entry_rows, pds_of}
+use Rattle.pgs_pds.specs.PdsBody.{entry_row, entries_of, entry_rows, pds_of}
 use Rattle.pgs_wds.specs.WdsBody.{window_of, window_size, window_row, window_count, windows_of, window_rows}
 use Rattle.pgs_pcs.specs.declared.pcs.CompositionObject.{CompositionObject}
 use Rattle.pgs_pcs.specs.declared.pcs.Pcs.{Pcs}
@@ -120,16 +115,13 @@ module _ (t : Timestamps) (b : List ℕ) where
         fields = λ rows e i. record { pts = t.pts; dts = t.dts; body = wds (e i) };
       }
 
-  pub entries-read : ReadList entry_row entry_from (λ (x : Pds × ℕ). x.1) (λ x rows. pds_segment t.pts t.dts x.0 rows) (pds_of b, entry_count b) (entries_of b) (entry_rows b)
-      (segment_with t.pts t.dts kinds.Pds b)
+  -- the entries as they are lent stand for what was read
+  pub entries-again : {p : Pds} {rows : List (List ℕ)} → p ≡ pds_of b → rows ≡ entry_rows b
+      → pds_segment t.pts t.dts p rows ≡ segment_with t.pts t.dts kinds.Pds b
   unfolding entry_rows
-  entries-read =
-      record {
-        are = refl;
-        again = λ e. refl;
-        many = sym (records-length entry_of entry_size (entry_count b) (drop 2 b));
-        fields = λ rows e i. record { pts = t.pts; dts = t.dts; body = pds (pds_of b) (e i) };
-      }
+  entries-again q e =
+      let again = ap (map entry_from) e ∙ back-again entry_row entry_from (λ x. refl) (entries_of b) in
+      λ i. record { pts = t.pts; dts = t.dts; body = pds (q i) (again i) }
 
   pub placements-read : ReadList placement_row placement_from (λ (x : Pcs × ℕ). x.1) (λ x rows. pcs_segment t.pts t.dts x.0 rows) (pcs_of b, placement_count b)
       (placements_of b) (placement_rows b) (segment_with t.pts t.dts kinds.Pcs b)
@@ -141,11 +133,3 @@ module _ (t : Timestamps) (b : List ℕ) where
         many = sym (records-length placement_of placement_size (placement_count b) (drop 11 b));
         fields = λ rows e i. record { pts = t.pts; dts = t.dts; body = pcs (pcs_of b) (e i) };
       }
-
--- the segment whose head and body were read
-pub segment-again : (l : List ℕ) {h : SegmentHeader} {t : SegmentType} → h ≡ header_fields l → t ≡ type_of h.segment_type
-    → segment_with h.pts h.dts t (take (13 + h.segment_size - 13) (drop 13 l)) ≡ fields_of l
-segment-again l {h} {t} q e =
-    let kind : t ≡ segment_type l = e ∙ ap (λ (x : SegmentHeader). type_of x.segment_type) q in
-    let size : 13 + h.segment_size - 13 ≡ size_of l = omega (arith, ap (λ (x : SegmentHeader). x.segment_size) q) in
-    λ i. record { pts = (q i).pts; dts = (q i).dts; body = body_of (kind i) (take (size i) (drop 13 l)) }

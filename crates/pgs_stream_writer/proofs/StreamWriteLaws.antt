@@ -8,36 +8,41 @@ use Prim.Native.Nat.{ℕ, zero, suc, ◌+◌, ◌-◌, ◌≤◌, ◌<◌}
 use native.Mathlib.Omega.{arith}
 use borrow.Author.Tests.{leb-true, leb-false}
 use lib.Dec.{leb}
-use lib.ListN.{length, take, drop, length-append, length-drop, drop_of_length-le}
+use lib.ListN.{length, take, drop, length-append, length-take, length-drop, drop_of_length-le}
 use lib.Seq.{drop-drop, length-take-le}
 use Rattle.pgs_base.proofs.Lists.{to_end}
 use Rattle.pgs_base.proofs.Outcomes.{second_holds, holds, first-accepts, not-both, not-refused}
 use Rattle.pgs_base.specs.Outcome.{Verdict, accepted, refused, Outcome, refuses, outcome, outcome_of, needing, laid, Delivered}
 use Rattle.pgs_stream.proofs.ReadingLaws.{own-fields}
 use Rattle.pgs_stream.proofs.StreamLaws.{read-on, read-stops, stopped-at}
-use Rattle.pgs_segment.specs.Fields.{SegmentFields}
-use Rattle.pgs_segment.specs.OneSegment.{segment_verdict, used_by, fields_of}
+use Rattle.pgs_segment.specs.Fields.{SegmentFields, body_of, body_verdict}
+use Rattle.pgs_segment.specs.OneSegment.{segment_verdict, segment_type, body_at, used_by, fields_of}
+use Rattle.pgs_segment.proofs.SegmentLaws.{accepted-body}
+use Rattle.pgs_views.specs.Kinds.{type_of}
+use Rattle.pgs_views.specs.declared.segment_type.SegmentType.{SegmentType}
+use Rattle.pgs_writer_base.specs.Kinds.{segment_with}
 use Rattle.pgs_stream.specs.Stream.{Reading, before, step_verdict, stopped_by, read_of, records_from, stream_fields, stream_verdict}
 use Rattle.pgs_stream.specs.Segments.{placed, segments_from}
 use Rattle.pgs_stream.specs.declared.segments.PlacedSegment.{PlacedSegment}
 use Rattle.pgs_stream.proofs.SegmentLaws.{none-left, first-left, good-on}
-use Rattle.pgs_segment.specs.Header.{header_fields}
+use Rattle.pgs_segment.specs.Header.{header_fields, size_of}
 use Rattle.pgs_encoding.specs.Encode.{encode}
+use Rattle.pgs_stream_writer.specs.declared.stream.Writes.{Writes}
 use Rattle.pgs_stream_writer.specs.StreamWrites.{stream_writes, accepted_in, writes_done, output_after}
 use Rattle.pgs_encoding.specs.Writable.{write_verdict}
 use Rattle.pgs_encoding.specs.Writes.{Written, write_into, moved_by, after, run}
 
 -- some of n writes are done, k are left at most: `done` were accepted, these segments are left, and the next is written from `at` on
-pub record Performing (s : List ℕ) (n : ℕ) (start now : List ℕ) (k : ℕ) (xs : List PlacedSegment) (at done : ℕ) : Type 0 where
+pub record Performing (s : List ℕ) (first n : ℕ) (start now : List ℕ) (k : ℕ) (xs : List PlacedSegment) (at done : ℕ) : Type 0 where
   pub from : ℕ
   pub good : stream_verdict (drop from s) ≡ accepted
   pub left : xs ≡ segments_from s from
   pub room : at ≤ length now
   pub same : length now ≡ length start
   pub few : done + k ≤ n
-  pub position : (run (take k (stream_fields (drop from s))) at now).position ≡ (stream_writes n s start).position
-  pub output : (run (take k (stream_fields (drop from s))) at now).output ≡ (stream_writes n s start).output
-  pub number : done + accepted_in (run (take k (stream_fields (drop from s))) at now).answers ≡ accepted_in (stream_writes n s start).answers
+  pub position : (run (take k (stream_fields (drop from s))) at now).position ≡ (stream_writes n (drop first s) start).position
+  pub output : (run (take k (stream_fields (drop from s))) at now).output ≡ (stream_writes n (drop first s) start).output
+  pub number : done + accepted_in (run (take k (stream_fields (drop from s))) at now).answers ≡ accepted_in (stream_writes n (drop first s) start).answers
 
 -- where no segments are left, no fields are
 none-left-fields : (at : ℕ) (ps : List (List ℕ)) → records_from placed at ps ≡ [] → map fields_of ps ≡ []
@@ -48,20 +53,20 @@ take-none : {A : Type 0} (k : ℕ) (xs : List A) → (0 < k → xs ≡ []) → t
 take-none zero xs h = refl
 take-none (suc k) xs h = ap (take (suc k)) (h (omega arith))
 
-module _ (s : List ℕ) (n : ℕ) (start : List ℕ) where
-  module _ {now : List ℕ} {k : ℕ} {xs : List PlacedSegment} {at done : ℕ} (c : Performing s n start now k xs at done) where
+module _ (s : List ℕ) (first n : ℕ) (start : List ℕ) where
+  module _ {now : List ℕ} {k : ℕ} {xs : List PlacedSegment} {at done : ℕ} (c : Performing s first n start now k xs at done) where
     -- all are done
-    pub performed : (0 < k → xs ≡ []) → (writes_done (stream_writes n s start) ≡ (done, at)) × (now ≡ (stream_writes n s start).output)
+    pub performed : (0 < k → xs ≡ []) → (writes_done (stream_writes n (drop first s) start) ≡ record { accepted = done; bytes = at }) × (now ≡ (stream_writes n (drop first s) start).output)
     performed h =
         let z : take k (stream_fields (drop c.from s)) ≡ []
         = take-none k (stream_fields (drop c.from s)) (λ q. none-left-fields c.from (read_of (drop c.from s)).pieces (sym c.left ∙ h q)) in
         let r : run (take k (stream_fields (drop c.from s))) at now ≡ record { answers = []; position = at; output = now }
         = ap (λ (fs : List SegmentFields). run fs at now) z in
-        let a : done + 0 ≡ accepted_in (stream_writes n s start).answers
+        let a : done + 0 ≡ accepted_in (stream_writes n (drop first s) start).answers
         = sym (ap (λ (w : Written). done + accepted_in w.answers) r) ∙ c.number in
-        let d : accepted_in (stream_writes n s start).answers ≡ done = omega arith in
+        let d : accepted_in (stream_writes n (drop first s) start).answers ≡ done = omega arith in
         let p = sym (sym (ap (λ (w : Written). w.position) r) ∙ c.position) in
-        ((λ j. (d j, p j)), sym (ap (λ (w : Written). w.output) r) ∙ c.output)
+        ((λ j. record { accepted = d j; bytes = p j }), sym (ap (λ (w : Written). w.output) r) ∙ c.output)
 
 -- how many bytes a write took, 0 where it was refused
 abbrev pub bytes_written : Result ℕ Refusal → ℕ
@@ -107,31 +112,22 @@ module _ (f : SegmentFields) (o : List ℕ) where
       (rw (length-append, length-drop) (omega arith), h)
   write-fits (refused k) e = (refl, omega arith)
 
--- parts that go to the end
-pub lent-write : (s now : List ℕ) (from at : ℕ) {ys : List ℕ} {a : Outcome ℕ}
-    → Delivered (write_verdict (fields_of (take (length s - from) (drop from s))))
-    (length (encode (fields_of (take (length s - from) (drop from s)))))
-    (encode (fields_of (take (length s - from) (drop from s)))) (take (length now - at) (drop at now)) ys a
-    → Delivered (write_verdict (fields_of (drop from s))) (length (encode (fields_of (drop from s))))
-    (encode (fields_of (drop from s))) (drop at now) ys a
-lent-write s now from at d = rw (to_end from s, to_end at now) at d
-
--- and such a part, put back
+-- a part that goes to the end, put back
 pub put_back : (o ys : List ℕ) (at : ℕ) → take at o ++ (ys ++ drop (length o - at) (drop at o)) ≡ take at o ++ ys
 put_back o ys at =
     ap (λ (t : List ℕ). take at o ++ (ys ++ t)) (drop_of_length-le (drop at o) {i = length o - at} (rw length-drop (omega arith)))
     ∙ ap (λ (t : List ℕ). take at o ++ t) (append-nil ys)
 
-abbrev first_place : ℕ → List PlacedSegment → ℕ
-first_place z [] = z
-first_place z (x ∷ xs) = x.at
+abbrev pub first_of : PlacedSegment → List PlacedSegment → PlacedSegment
+first_of z [] = z
+first_of z (x ∷ xs) = x
 
 abbrev rest_of : List PlacedSegment → List PlacedSegment
 rest_of [] = []
 rest_of (x ∷ xs) = xs
 
-module _ (s : List ℕ) (n : ℕ) (start : List ℕ) {now : List ℕ} {k : ℕ} {x : PlacedSegment} {xs ys : List PlacedSegment} {at done : ℕ}
-    (c : Performing s n start now k xs at done) (h : xs ≡ x ∷ ys)
+module _ (s : List ℕ) (first n : ℕ) (start : List ℕ) {now : List ℕ} {k : ℕ} {x : PlacedSegment} {xs ys : List PlacedSegment} {at done : ℕ}
+    (c : Performing s first n start now k xs at done) (h : xs ≡ x ∷ ys)
   where
     -- a segment stands here
     more : c.from < length s
@@ -155,14 +151,35 @@ module _ (s : List ℕ) (n : ℕ) (start : List ℕ) {now : List ℕ} {k : ℕ} 
     parts : x ∷ ys ≡ placed c.from (header_fields (drop c.from s)) ∷ segments_from s (c.from + used_by (drop c.from s))
     parts = sym h ∙ (c.left ∙ first-left s c.good more)
 
-    next-place : x.at ≡ c.from
-    next-place = ap (first_place c.from) parts
+    is-placed : x ≡ placed c.from (header_fields (drop c.from s))
+    is-placed = ap (first_of x) parts
 
-    pub next-within : x.at ≤ length s
-    next-within = omega (arith, more, next-place)
+    -- its kind and its body, as they are handed on: it is known to be whole, and its fields are those of the stream's segment
+    module _ {t : SegmentType} {b : List ℕ} (e : t ≡ type_of x.header.segment_type) (q : b ≡ take (x.end - (x.at + 13)) (drop (x.at + 13) s)) where
+      kind-is : t ≡ segment_type (drop c.from s)
+      kind-is = e ∙ ap (λ (p : PlacedSegment). type_of p.header.segment_type) is-placed
 
-    pub next-lent : segment_verdict (take (length s - x.at) (drop x.at s)) ≡ accepted
-    next-lent = rw next-place (ap segment_verdict (to_end c.from s) ∙ next-verdict)
+      body-is : b ≡ body_at (drop c.from s)
+      body-is =
+          let size : c.from + (13 + size_of (drop c.from s)) - (c.from + 13) ≡ size_of (drop c.from s) = omega arith in
+          let behind = sym (drop-drop 13 c.from s) in
+          q
+          ∙ (ap (λ (p : PlacedSegment). take (p.end - (p.at + 13)) (drop (p.at + 13) s)) is-placed
+          ∙ (λ i. take (size i) (behind i)))
+
+      pub next-whole : body_verdict t b ≡ accepted
+      next-whole = (λ i. body_verdict (kind-is i) (body-is i)) ∙ accepted-body (drop c.from s) next-verdict
+
+      pub next-short : length b ≤ x.header.segment_size
+      next-short = omega (
+        arith,
+        ap (length {A = ℕ}) body-is,
+        length-take (size_of (drop c.from s)) (drop 13 (drop c.from s)),
+        ap (λ (p : PlacedSegment). p.header.segment_size) is-placed,
+      )
+
+      pub next-fields : segment_with x.header.pts x.header.dts t b ≡ fields_of (drop c.from s)
+      next-fields = λ i. record { pts = (is-placed i).header.pts; dts = (is-placed i).header.dts; body = body_of (kind-is i) (body-is i) }
 
     left : read_of (drop c.from s) ≡ before (take (used_by (drop c.from s)) (drop c.from s)) (read_of (drop (used_by (drop c.from s)) (drop c.from s)))
     left = read-on (drop c.from s) next-step
@@ -216,7 +233,7 @@ module _ (s : List ℕ) (n : ℕ) (start : List ℕ) {now : List ℕ} {k : ℕ} 
             at_most (Ok k) = omega arith
             at_most (Err r) = omega arith
 
-        performs-on : {m : ℕ} → m + 1 ≡ k → Performing s n start (take at now ++ ws) m ys (at + bytes_written answer) (done + writes_accepted answer)
+        performs-on : {m : ℕ} → m + 1 ≡ k → Performing s first n start (take at now ++ ws) m ys (at + bytes_written answer) (done + writes_accepted answer)
         performs-on {m} less =
             record {
               from = c.from + used_by (drop c.from s);
@@ -239,15 +256,14 @@ module _ (s : List ℕ) (n : ℕ) (start : List ℕ) {now : List ℕ} {k : ℕ} 
             }
 
     -- a write that took so many bytes, 0 where it was refused, and counts 1 where it was accepted
-    pub performed-next : {m at' done' : ℕ} (answer : Result ℕ Refusal) {ws : List ℕ} → m + 1 ≡ k
-        → Delivered (write_verdict (fields_of (take (length s - x.at) (drop x.at s)))) (length (encode (fields_of (take (length s - x.at) (drop x.at s)))))
-        (encode (fields_of (take (length s - x.at) (drop x.at s)))) (take (length now - at) (drop at now)) ws (outcome answer)
+    pub performed-next : {m at' done' : ℕ} {f : SegmentFields} (answer : Result ℕ Refusal) {ws : List ℕ} → f ≡ fields_of (drop c.from s) → m + 1 ≡ k
+        → Delivered (write_verdict f) (length (encode f)) (encode f) (take (length now - at) (drop at now)) ws (outcome answer)
         → at' ≡ at + bytes_written answer → done' ≡ done + writes_accepted answer
-        → Performing s n start (take at now ++ (ws ++ drop (length now - at) (drop at now))) m ys at' done'
-    performed-next answer {ws} less d e q = rw (put_back now ws at, e, q) (performs-on answer (rw next-place at (lent-write s now x.at at d)) less)
+        → Performing s first n start (take at now ++ (ws ++ drop (length now - at) (drop at now))) m ys at' done'
+    performed-next answer {ws} own less d e q = rw (put_back now ws at, e, q) (performs-on answer (rw (to_end at now, own) at d) less)
 
 -- how the call ends, for an accepted stream and for a refused one
 module _ (n : ℕ) (s o : List ℕ) where
   pub refused-writes : {k : ℕ} → stream_verdict s ≡ refused k
-      → (◌≡◌ {A = Outcome (ℕ × ℕ)} (refuses k) (outcome_of (stream_verdict s) (writes_done (stream_writes n s o)))) × (o ≡ output_after (stream_verdict s) (stream_writes n s o) o)
+      → (◌≡◌ {A = Outcome Writes} (refuses k) (outcome_of (stream_verdict s) (writes_done (stream_writes n s o)))) × (o ≡ output_after (stream_verdict s) (stream_writes n s o) o)
   refused-writes e = rw e (refl, refl)

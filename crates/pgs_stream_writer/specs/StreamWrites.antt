@@ -4,6 +4,7 @@ use Rattle.std.specs.Prelude.{ℕ, suc, List, [], ◌∷◌, take}
 use Rattle.pgs_base.specs.Outcome.{Verdict, accepted, refused}
 use Rattle.pgs_stream.specs.Stream.{stream_fields}
 use Rattle.pgs_encoding.specs.Writes.{Written, run}
+use Rattle.pgs_stream_writer.specs.declared.stream.Writes.{Writes}
 
 -- the writes of the first n segments of a stream s into the output o, or of all where there are fewer
 abbrev pub stream_writes : ℕ → List ℕ → List ℕ → Written
@@ -15,9 +16,9 @@ accepted_in [] = 0
 accepted_in (accepted ∷ vs) = suc (accepted_in vs)
 accepted_in (refused k ∷ vs) = accepted_in vs
 
--- and how many bytes they take
-abbrev pub writes_done : Written → ℕ × ℕ
-writes_done w = (accepted_in w.answers, w.position)
+-- so many, and how many bytes they take
+abbrev pub writes_done : Written → Writes
+writes_done w = record { accepted = accepted_in w.answers; bytes = w.position }
 
 -- the output: that of the writes, and as it was where the stream is refused
 abbrev pub output_after : Verdict → Written → List ℕ → List ℕ

@@ -2,7 +2,6 @@
 ghost use Rattle.std.specs.Prelude.{◌≡◌, ◌≤◌, length};
 ghost use Rattle.pgs_base.specs.Outcome.{accepted};
 ghost use Rattle.pgs_segment.specs.Fields.{body_verdict};
-ghost use Rattle.pgs_segment.specs.OneSegment.{segment_verdict, fields_of};
 ghost use Rattle.pgs_writer_base.specs.Answers.{Wrote};
 ghost use Rattle.pgs_writer_base.specs.Kinds.{segment_with};
 
@@ -10,7 +9,6 @@ use pgs_base::refusal::Refusal;
 use pgs_ods::ods::Ods;
 use pgs_pcs::pcs::Pcs;
 use pgs_pds::pds::Pds;
-use pgs_segment::header::SegmentHeader;
 use pgs_views::segment_type::SegmentType;
 use pgs_wds::wds::Wds;
 use pgs_writer::end::encode_end;
@@ -21,14 +19,12 @@ use pgs_writer_lists::pds::encode_pds;
 use pgs_writer_lists::wds::encode_wds;
 use pgs_writer_pcs::pcs::encode_pcs;
 
-// Room for all placements or windows that a count of one byte can name, and for all entries of the largest body: two numbers, then five
-// bytes each.
+// Room for all placements or windows that a count of one byte can name.
 const COUNTED: usize = u8::MAX as usize;
 
-const ENTRIES: usize = (u16::MAX as usize - 2) / 5;
-
-// A segment of this kind and body, which is known to be whole: reading it is never refused.
-fn rewrite_body(
+// Writes the segment of this kind and body, which is known to be whole: reading it is never refused.
+// Stays an arm for a PCS and one for a WDS, which are alike: one function for both would need a trait of reading and writing, with two impls.
+pub(crate) fn rewrite_body(
     times: Timestamps,
     kind: SegmentType,
     body: &[u8],
@@ -39,11 +35,7 @@ fn rewrite_body(
     ensures { Wrote (segment_with times.pts times.dts kind body.now) out.old out.new result }
 {
     match kind {
-        SegmentType::Pds => {
-            let mut entries = [[0u8; 5]; ENTRIES];
-            let (pds, n) = Pds::parse(body, &mut entries)?;
-            encode_pds(times, pds, &entries[..n], out)
-        }
+        SegmentType::Pds => encode_pds(times, Pds::numbers(body), Pds::entries(body), out),
         SegmentType::Ods => {
             let (ods, data) = Ods::parse(body)?;
             encode_ods(times, ods, &body[data.start..], out)
@@ -61,18 +53,4 @@ fn rewrite_body(
         SegmentType::End => encode_end(times, out),
         SegmentType::Other(v) => encode_other(times, v, body, out),
     }
-}
-
-// Writes the segment at the front of `l`, which is known to be accepted.
-pub(crate) fn rewrite_segment(l: &[u8], out: &mut [u8]) -> Result<usize, Refusal>
-    requires { segment_verdict l.now ≡ accepted }
-    ensures { Wrote (fields_of l.now) out.old out.new result }
-{
-    let head = SegmentHeader::parse(l)?;
-    let times = Timestamps {
-        pts: head.pts,
-        dts: head.dts,
-    };
-    let kind = head.kind();
-    rewrite_body(times, kind, &l[SegmentHeader::SIZE..head.used()], out)
 }

@@ -1,6 +1,6 @@
 // The kinds of segments, as views of the kind's byte.
 ghost use Rattle.std.specs.Prelude.{◌≡◌};
-ghost use Rattle.pgs_views.specs.Kinds.{type_of, raw_of};
+ghost use Rattle.pgs_views.specs.Kinds.{type_of, raw_of, is_pds, is_ods, is_pcs, is_end};
 
 #[derive(Clone, Copy, Debug, PartialEq, Eq)]
 pub enum SegmentType {
@@ -39,5 +39,35 @@ impl From<SegmentType> for u8 {
             SegmentType::End => 0x80,
             SegmentType::Other(v) => v,
         }
+    }
+}
+
+impl SegmentType {
+    // Whether the segment has a palette.
+    pub fn is_pds(self) -> bool
+        ensures { result ≡ is_pds self }
+    {
+        matches!(self, SegmentType::Pds)
+    }
+
+    // Whether the segment has an object, or a fragment of one.
+    pub fn is_ods(self) -> bool
+        ensures { result ≡ is_ods self }
+    {
+        matches!(self, SegmentType::Ods)
+    }
+
+    // Whether the segment opens a display set.
+    pub fn is_pcs(self) -> bool
+        ensures { result ≡ is_pcs self }
+    {
+        matches!(self, SegmentType::Pcs)
+    }
+
+    // Whether the segment closes a display set.
+    pub fn is_end(self) -> bool
+        ensures { result ≡ is_end self }
+    {
+        matches!(self, SegmentType::End)
     }
 }

@@ -31,6 +31,7 @@ impl Window {
 }
 
 impl ListRecord for Window {
+    // Stays a row: the C interface lends rows.
     type Row = [u16; 5];
 
     ghost value = { window_of };

@@ -1,17 +1,17 @@
 // The writer of an ODS.
-ghost use Rattle.std.specs.Prelude.{◌≡◌, ◌≤◌, take};
-ghost use Rattle.pgs_encoding.specs.Encode.{ods_fields};
+ghost use Rattle.std.specs.Prelude.{◌≡◌, ◌++◌, take, Some};
+ghost use Rattle.pgs_encoding.specs.Encode.{dimension_fields, ods_fields};
 ghost use Rattle.pgs_encoding.specs.Layout.{written};
 ghost use Rattle.pgs_encoding.specs.Writable.{ods_writable};
 ghost use Rattle.pgs_writer_base.specs.Answers.{Wrote};
 ghost use Rattle.pgs_writer_base.specs.Kinds.{ods_segment};
 
+use pgs_base::dimensions::Dimensions;
 use pgs_base::refusal::Refusal;
 use pgs_ods::ods::Ods;
 use pgs_views::segment_type::SegmentType;
 use pgs_writer_base::body::encode_data;
 use pgs_writer_base::head::Timestamps;
-use pgs_writer_base::put::{put_u8, put_u16, put_u24};
 
 // The largest declared length: it takes three bytes.
 const LONGEST: u32 = (1 << 24) - 1;
@@ -26,26 +26,27 @@ fn ods_fits(o: Ods) -> bool
     o.dimensions.is_some() == o.is_first()
 }
 
-// The numbers, one after another, and how many bytes they take.
-// Stays an array and a length: nothing allocates, so that there is no `Vec`.
-fn ods_bytes(o: Ods) -> ([u8; Ods::FIRST_SIZE], usize)
-    ensures value { take result.1 result.0 ≡ written (ods_fields o) }
-    ensures most { result.1 ≤ 11 }
+// The numbers before the dimensions, one after another.
+fn ods_bytes(o: Ods) -> [u8; Ods::SIZE]
+    ensures { result ≡ take 7 (written (ods_fields o)) }
 {
-    let mut numbers = [0u8; Ods::FIRST_SIZE];
-    put_u16(&mut numbers, 0, o.object_id);
-    put_u8(&mut numbers, 2, o.object_version_number);
-    put_u8(&mut numbers, 3, o.last_in_sequence_flag);
-    put_u24(&mut numbers, 4, o.object_data_length);
-    let dimensions = o.dimensions;
-    match dimensions {
-        None => (numbers, Ods::SIZE),
-        Some(size) => {
-            put_u16(&mut numbers, 7, size.width);
-            put_u16(&mut numbers, 9, size.height);
-            (numbers, Ods::FIRST_SIZE)
-        }
-    }
+    let [id1, id2] = o.object_id.to_be_bytes();
+    let [_, length1, length2, length3] = o.object_data_length.to_be_bytes();
+    let version = o.object_version_number;
+    let flag = o.last_in_sequence_flag;
+    [id1, id2, version, flag, length1, length2, length3]
+}
+
+// The same of a first fragment, and its dimensions.
+fn first_bytes(o: Ods, size: Dimensions) -> [u8; Ods::FIRST_SIZE]
+    ensures { result ≡ take 7 (written (ods_fields o)) ++ written (dimension_fields (Some size)) }
+{
+    let [id1, id2, version, flag, length1, length2, length3] = ods_bytes(o);
+    let [width1, width2] = size.width.to_be_bytes();
+    let [height1, height2] = size.height.to_be_bytes();
+    [
+        id1, id2, version, flag, length1, length2, length3, width1, width2, height1, height2,
+    ]
 }
 
 // Writes an ODS: 35 for numbers that do not fit or a body over 65,535 bytes, then 34.
@@ -60,6 +61,9 @@ pub fn encode_ods(
     if !ods_fits(ods) {
         return Err(Refusal::NotEncodable);
     }
-    let (numbers, n) = ods_bytes(ods);
-    encode_data(times, SegmentType::Ods, &numbers[..n], data, out)
+    let dimensions = ods.dimensions;
+    match dimensions {
+        None => encode_data(times, SegmentType::Ods, &ods_bytes(ods), data, out),
+        Some(size) => encode_data(times, SegmentType::Ods, &first_bytes(ods, size), data, out),
+    }
 }

@@ -1,16 +1,16 @@
--- Loops over the rows of a list: a test of each, their size, and stores of each. Assumes nothing.
+-- Loops over the rows of a list: a test of each, and stores of each. Assumes nothing.
 use mathlib.Core.Path.{◌≡◌, refl, sym, ap, ◌∙◌}
 use mathlib.Core.Bool.{Bool, true, false}
 use mathlib.Core.List.{List, [], ◌∷◌, ◌++◌, map}
-use Prim.Native.Nat.{ℕ, ◌+◌, ◌≤◌, ◌<◌}
+use Prim.Native.Nat.{ℕ, ◌+◌, ◌-◌, ◌≤◌, ◌<◌}
 use native.Mathlib.Numerals.{add-one}
-use lib.ListN.{length, drop, get_or}
+use lib.ListN.{length, take, drop, get_or}
 use lib.Seq.{sets, drop-cons, drop-length}
 use mathlib.Core.Bool.{◌&&◌}
 use Rattle.std.specs.List.{list_all}
 use Rattle.pgs_base.specs.Outcome.{pick}
 use Rattle.pgs_encoding.specs.Layout.{Field, written, each, record_bytes}
-use Rattle.pgs_writer_base.proofs.PutLaws.{sets-append, sets-out}
+use Rattle.pgs_writer_base.proofs.PutLaws.{sets-append, sets-out, sets-part_from}
 
 -- a test of each, as the library says it
 pub each-all : {A : Type 0} (test : A → Bool) (rows : List A) → list_all test rows ≡ each test rows
@@ -40,11 +40,6 @@ module _ {A : Type 0} (rows : List A) where
         → record_bytes fields (drop i rows) ≡ written (fields a) ++ record_bytes fields (drop (i + 1) rows)
     bytes_next h e = ap (record_bytes fields) (next h e)
 
-    -- i rows are counted: with those that are left, `size` comes to `total`
-    pub record Measuring (total i size : ℕ) : Type 0 where
-      pub reach : size + length (record_bytes fields (drop i rows)) ≡ total
-      pub small : size < 65536
-
     module _ (start : List ℕ) (first : ℕ) where
       -- i rows are stored from place `first` on, and the next one goes to `at`: storing the others gives the whole
       pub record Storing (now : List ℕ) (i at : ℕ) : Type 0 where
@@ -53,12 +48,14 @@ module _ {A : Type 0} (rows : List A) where
       pub storing : Storing start 0 first
       storing = record { left = refl }
 
-      -- the next one is stored
-      pub stores : {now now' : List ℕ} {i at k : ℕ} {a : A} → Storing now i at → i < length rows → a ≡ get_or rows i a
-          → k ≡ length (written (fields a)) → now' ≡ sets now at (written (fields a)) → Storing now' (i + 1) (at + k)
-      stores {now} {now'} {i} {at} {k} {a} s h e q w =
+      -- the next one is stored, at the front of what stands from there on
+      pub stores : {now new : List ℕ} {i at k : ℕ} {a : A} → Storing now i at → i < length rows → a ≡ get_or rows i a
+          → k ≡ length (written (fields a)) → at ≤ length now → new ≡ sets (take (length now - at) (drop at now)) 0 (written (fields a))
+          → Storing (take at now ++ (new ++ drop (length now - at) (drop at now))) (i + 1) (at + k)
+      stores {now} {new} {i} {at} {k} {a} s h e q room stored-there =
           let b = written (fields a) in
           let r = record_bytes fields (drop (i + 1) rows) in
+          let w = sets-part_from now at b room stored-there in
           record {
             left =
                 (λ j. sets (w j) (at + q j) r) ∙ sets-append now at b r ∙ ap (sets now at) (sym (bytes_next h e)) ∙ s.left;

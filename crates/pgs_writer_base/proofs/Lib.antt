@@ -5,3 +5,4 @@ pub mod PlacementLaws
 pub mod PutLaws
 pub mod WriteKinds
 pub mod WriteLaws
+pub mod SumLaws

@@ -1,15 +1,16 @@
 -- Stores that follow one another. Assumes nothing.
 use mathlib.Core.Path.{◌≡◌, refl, sym, ap, ◌∙◌}
 use mathlib.Core.Bool.{Bool, true, false}
-use mathlib.Core.List.{List, [], ◌∷◌, ◌++◌, append_assoc}
-use Prim.Native.Nat.{ℕ, suc, min, ◌+◌, ◌-◌, ◌≤◌}
+use mathlib.Core.List.{List, [], ◌∷◌, ◌++◌, append_assoc, append-nil}
+use Prim.Native.Nat.{ℕ, zero, suc, min, ◌+◌, ◌-◌, ◌≤◌}
 use native.Mathlib.Nat.{add-suc, suc-add, add-zero}
 use native.Mathlib.Omega.{arith}
 use borrow.Author.Tests.{leb-true, leb-false}
 use lib.Dec.{leb}
-use lib.ListN.{length, take, drop, set, take-append-drop, drop_of_length-le}
+use lib.ListN.{length, take, drop, set, take-append-drop, length-drop, drop_of_length-le}
 use lib.Seq.{sets, set_out, sets-eq, drop-drop, length-take-le, length-sets}
 use Rattle.pgs_base.specs.Outcome.{accepted, laid}
+use Rattle.pgs_base.proofs.Lists.{to_end}
 
 -- one run of stores after another is one run
 pub sets-append : {A : Type 0} (l : List A) (i : ℕ) (vs ws : List A) → sets (sets l i vs) (i + length vs) ws ≡ sets l i (vs ++ ws)
@@ -57,3 +58,22 @@ sets-trim l i {n} vs h e =
     rest short false q =
         sets-out (sets l i (take n vs)) (i + length (take n vs)) (drop n vs)
         (omega (arith, leb-false (length vs) (length l - i) q, length-sets l i (take n vs)))
+
+-- a store behind the first value leaves it where it is
+sets-behind : {A : Type 0} (x : A) (l : List A) (i : ℕ) (vs : List A) → sets (x ∷ l) (suc i) vs ≡ x ∷ sets l i vs
+sets-behind x l i [] = refl
+sets-behind x l i (a ∷ vs) = sets-behind x (set l i a) (suc i) vs
+
+-- a store at the front of what stands from a place on is one at that place
+sets-from : {A : Type 0} (l : List A) (i : ℕ) (vs : List A) → i ≤ length l → take i l ++ sets (drop i l) 0 vs ≡ sets l i vs
+sets-from l zero vs h = refl
+sets-from [] (suc i) vs h = absurd (omega arith)
+sets-from {A} (x ∷ l) (suc i) vs h = ap (λ (m : List A). x ∷ m) (sets-from l i vs (omega arith)) ∙ sym (sets-behind x l i vs)
+
+-- the same of a part that goes to the end, put back
+pub sets-part_from : (l : List ℕ) (i : ℕ) (vs : List ℕ) {new : List ℕ} → i ≤ length l → new ≡ sets (take (length l - i) (drop i l)) 0 vs
+    → take i l ++ (new ++ drop (length l - i) (drop i l)) ≡ sets l i vs
+sets-part_from l i vs {new} h e =
+    ap (λ (t : List ℕ). take i l ++ (new ++ t)) (drop_of_length-le (drop i l) {i = length l - i} (rw length-drop (omega arith)))
+    ∙ (ap (λ (t : List ℕ). take i l ++ t) (append-nil new ∙ (e ∙ ap (λ (m : List ℕ). sets m 0 vs) (to_end i l)))
+    ∙ sets-from l i vs h)

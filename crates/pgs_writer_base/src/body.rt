@@ -16,7 +16,9 @@ use pgs_segment::header::SegmentHeader;
 use pgs_views::segment_type::SegmentType;
 
 // Stores the head of a body of this size and the body's numbers, and answers how many bytes the segment takes; 34 without room for it.
-// Stays by times, kind and numbers, as the two below: each writer would make a struct of the three for its one call.
+// Stays by times, kind and numbers, as the two below: each writer would make a struct of the three for its one call. A `SegmentHeader` in
+// their place has the kind as a byte, and the size, which only the two below know: both would make one, and each promise would speak of
+// its byte as the kind's.
 fn put_front(
     out: &mut [u8],
     times: Timestamps,
@@ -58,14 +60,10 @@ fn body_size<W: RowWriter>(numbers: &[u8], rows: &[W::Row]) -> Result<u16, Refus
     ensures { outcome result
         ≡ outcome_of (unless 35 (is_body_size (length (list_body W.fields numbers.now rows.now)))) (length (list_body W.fields numbers.now rows.now)) }
 {
-    let mut size = u16::try_from(numbers.len())?;
-    for row in rows {
-        let Some(sum) = size.checked_add(W::size(*row)) else {
-            return Err(Refusal::NotEncodable);
-        };
-        size = sum;
-    }
-    Ok(size)
+    let first = u16::try_from(numbers.len())?;
+    rows.iter()
+        .try_fold(first, |size, row| size.checked_add(W::size(*row)))
+        .ok_or(Refusal::NotEncodable)
 }
 
 // Writes a segment of this kind and list: 35 for rows that cannot be written or a body over 65,535 bytes, then 34.

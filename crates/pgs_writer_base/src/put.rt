@@ -1,5 +1,6 @@
 // Numbers stored at a place. A byte whose place is past the end is left out.
-// Stays by output and place: a struct of both would hold the lent output, and each call would have to promise that it holds it still.
+// Stays by output and place: a struct of both would hold the lent output, and each call would have to promise that it holds it still; and
+// `&mut out[at..]` would have to be tested before each call, since a head is also stored in an output that ends before the place.
 ghost use Rattle.std.specs.Prelude.{◌≡◌};
 ghost use Rattle.std.proofs.lemmas.List.Edits.{sets};
 ghost use Rattle.pgs_base.specs.Bytes.{bytes_of};
@@ -29,7 +30,7 @@ pub fn put_u16(out: &mut [u8], at: usize, n: u16)
     put_bytes(out, at, &u16::to_be_bytes(n));
 }
 
-// The low 24 bits; the writers refuse a larger number first.
+// The low 24 bits. No writer calls it: a declared length is stored with the other numbers of its ODS.
 pub fn put_u24(out: &mut [u8], at: usize, n: u32)
     ensures { out.new ≡ sets out.old at (bytes_of 3 n) }
 {

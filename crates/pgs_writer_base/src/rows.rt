@@ -20,9 +20,9 @@ pub trait RowWriter {
     fn size(row: Self::Row) -> u16
         ensures { result ≡ length (written (fields row)) };
 
-    // Stores it at a place. What is past the end is left out.
-    fn put(out: &mut [u8], at: usize, row: Self::Row)
-        ensures { out.new ≡ sets out.old at (written (fields row)) };
+    // Stores it at the front of the output. What is past the end is left out.
+    fn put(out: &mut [u8], row: Self::Row)
+        ensures { out.new ≡ sets out.old 0 (written (fields row)) };
 }
 
 pub fn rows_fit<W: RowWriter>(rows: &[W::Row]) -> bool
@@ -36,11 +36,13 @@ pub fn put_rows<W: RowWriter>(out: &mut [u8], first: usize, rows: &[W::Row])
     ensures { out.new ≡ sets out.old first (record_bytes W.fields rows.now) }
 {
     let mut at = first;
+    // Stays a place: parts of one size, as `chunks_mut` gives, do not fit placements, of 8 bytes or 16; and the promise is of the whole
+    // output, which a loop that goes on in the rest of it no longer has.
     for row in rows {
         if out.len() <= at {
             return;
         }
-        W::put(out, at, *row);
+        W::put(&mut out[at..], *row);
         at += usize::from(W::size(*row));
     }
 }

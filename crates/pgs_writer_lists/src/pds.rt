@@ -33,8 +33,8 @@ impl RowWriter for Entries {
         PaletteEntry::SIZE as u16
     }
 
-    fn put(out: &mut [u8], at: usize, row: [u8; 5]) {
-        put_bytes(out, at, &row);
+    fn put(out: &mut [u8], row: [u8; 5]) {
+        put_bytes(out, 0, &row);
     }
 }
 

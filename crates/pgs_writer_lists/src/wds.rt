@@ -17,7 +17,7 @@ use pgs_writer_base::rows::RowWriter;
 struct Windows;
 
 impl RowWriter for Windows {
-    // Stays a row by index: the C interface lends rows.
+    // Stays a row: the C interface lends rows.
     type Row = [u16; 5];
 
     ghost fields = { λ row. window_fields (window_from row) };
@@ -26,23 +26,23 @@ impl RowWriter for Windows {
 
     // An id takes one byte.
     fn fits(row: [u16; 5]) -> bool {
-        row[0] <= ONE_BYTE
+        let [id, ..] = row;
+        id <= ONE_BYTE
     }
 
     fn size(_: [u16; 5]) -> u16 {
         Window::SIZE as u16
     }
 
-    fn put(out: &mut [u8], at: usize, row: [u16; 5]) {
-        if out.len() <= at {
-            return;
-        }
-        // Stays `% 256`: `put` promises the low byte of any cell, and `u8::try_from` would leave the wide ones without an answer.
-        put_u8(out, at, (row[0] % 256) as u8);
-        put_u16(out, at + 1, row[1]);
-        put_u16(out, at + 3, row[2]);
-        put_u16(out, at + 5, row[3]);
-        put_u16(out, at + 7, row[4]);
+    fn put(out: &mut [u8], row: [u16; 5]) {
+        let [id, x, y, width, height] = row;
+        // Of a cell that does not fit, the low byte.
+        let [_, id] = id.to_be_bytes();
+        put_u8(out, 0, id);
+        put_u16(out, 1, x);
+        put_u16(out, 3, y);
+        put_u16(out, 5, width);
+        put_u16(out, 7, height);
     }
 }
 

@@ -16,27 +16,25 @@ use pgs_writer_base::head::Timestamps;
 use pgs_writer_base::put::{ONE_BYTE, put_u8, put_u16};
 use pgs_writer_base::rows::RowWriter;
 
-// Stores the crop of a record, if it has one.
-fn put_crop(out: &mut [u8], at: usize, p: [u16; 10])
-    ensures { out.new ≡ sets out.old at (written (crop_fields (crop_from p))) }
+// Stores the crop of a record, if it has one, behind the fields before it.
+fn put_crop(out: &mut [u8], p: [u16; 10])
+    ensures { out.new ≡ sets out.old 8 (written (crop_fields (crop_from p))) }
 {
-    if p[5] == 0 {
+    let [.., mark, x, y, width, height] = p;
+    if mark == 0 {
         return;
     }
-    if out.len() <= at {
-        return;
-    }
-    put_u16(out, at, p[6]);
-    put_u16(out, at + 2, p[7]);
-    put_u16(out, at + 4, p[8]);
-    put_u16(out, at + 6, p[9]);
+    put_u16(out, 8, x);
+    put_u16(out, 10, y);
+    put_u16(out, 12, width);
+    put_u16(out, 14, height);
 }
 
 // How placements are written.
 struct Placements;
 
 impl RowWriter for Placements {
-    // Stays a row by index: the C interface lends rows.
+    // Stays a row: the C interface lends rows.
     type Row = [u16; 10];
 
     ghost fields = { λ row. placement_fields (placement_from row) };
@@ -45,55 +43,63 @@ impl RowWriter for Placements {
 
     // A window id and a crop flag take one byte each, and a crop is marked exactly at flag 40.
     fn fits(row: [u16; 10]) -> bool {
-        if ONE_BYTE < row[1] {
+        let [_, window, flag, _, _, mark, ..] = row;
+        if ONE_BYTE < window {
             return false;
         }
-        if ONE_BYTE < row[2] {
+        if ONE_BYTE < flag {
             return false;
         }
-        if row[2] == u16::from(CompositionObject::CROPPED_FLAG) {
-            row[5] == 1
+        if flag == u16::from(CompositionObject::CROPPED_FLAG) {
+            mark == 1
         } else {
-            row[5] == 0
+            mark == 0
         }
     }
 
     fn size(row: [u16; 10]) -> u16 {
-        if row[5] == 0 {
+        let [_, _, _, _, _, mark, ..] = row;
+        if mark == 0 {
             CompositionObject::SIZE as u16
         } else {
             CompositionObject::CROPPED_SIZE as u16
         }
     }
 
-    fn put(out: &mut [u8], at: usize, row: [u16; 10]) {
-        if out.len() <= at {
-            return;
-        }
-        put_u16(out, at, row[0]);
-        // Stays `% 256`, for both: `put` promises the low byte of any cell, and `u8::try_from` would leave the wide ones without an answer.
-        put_u8(out, at + 2, (row[1] % 256) as u8);
-        put_u8(out, at + 3, (row[2] % 256) as u8);
-        put_u16(out, at + 4, row[3]);
-        put_u16(out, at + 6, row[4]);
-        put_crop(out, at + 8, row);
+    fn put(out: &mut [u8], row: [u16; 10]) {
+        let [id, window, flag, x, y, ..] = row;
+        put_u16(out, 0, id);
+        // Of a cell that does not fit, the low byte.
+        let [_, window] = window.to_be_bytes();
+        let [_, flag] = flag.to_be_bytes();
+        put_u8(out, 2, window);
+        put_u8(out, 3, flag);
+        put_u16(out, 4, x);
+        put_u16(out, 6, y);
+        put_crop(out, row);
     }
 }
 
 // The numbers, with the count of placements, one after another.
-fn pcs_bytes(p: Pcs, count: u8) -> [u8; 11]
+fn pcs_bytes(p: Pcs, count: u8) -> [u8; Pcs::SIZE]
     ensures { result ≡ written (pcs_fields p count) }
 {
-    let mut numbers = [0u8; 11];
-    put_u16(&mut numbers, 0, p.width);
-    put_u16(&mut numbers, 2, p.height);
-    put_u8(&mut numbers, 4, p.frame_rate);
-    put_u16(&mut numbers, 5, p.composition_number);
-    put_u8(&mut numbers, 7, p.composition_state);
-    put_u8(&mut numbers, 8, p.palette_update_flag);
-    put_u8(&mut numbers, 9, p.palette_id);
-    put_u8(&mut numbers, 10, count);
-    numbers
+    let [width1, width2] = p.width.to_be_bytes();
+    let [height1, height2] = p.height.to_be_bytes();
+    let [number1, number2] = p.composition_number.to_be_bytes();
+    [
+        width1,
+        width2,
+        height1,
+        height2,
+        p.frame_rate,
+        number1,
+        number2,
+        p.composition_state,
+        p.palette_update_flag,
+        p.palette_id,
+        count,
+    ]
 }
 
 // Writes a PCS: 35, then 34, else the whole segment.

@@ -1,5 +1,6 @@
 // Prints answers, and outputs that were full of EE before.
 use pgs_base::refusal::Refusal;
+use pgs_stream_writer::stream::Writes;
 use std::io;
 
 pub(crate) fn bytes(rt: &impl Print, title: &str, s: &[u8]) -> io::Result<()> {
@@ -39,9 +40,9 @@ impl Given for usize {
 }
 
 // How many writes of a list were accepted, and in how many bytes.
-impl Given for (usize, usize) {
+impl Given for Writes {
     fn print(self, rt: &impl Print) -> io::Result<()> {
-        let (accepted, bytes) = self;
+        let Writes { accepted, bytes } = self;
         print!(rt; ": accepted {accepted}, written {bytes}")
     }
 }

@@ -9,7 +9,6 @@ use Rattle.pgs_stream.specs.declared.segments.PlacedSegment.{PlacedSegment}
 use Rattle.pgs_views.specs.Kinds.{type_of}
 use Rattle.pgs_views.specs.declared.segment_type.SegmentType.{SegmentType}
 use Rattle.pgs_cards.proofs.FillLaws.{Writing, answer, writing, never-refused, goes_on, line-fits, line-put}
-use Rattle.pgs_cards.specs.Walks.{no_card}
 use Rattle.pgs_cards.specs.declared.card.Card.{Card}
 use Prim.Native.Nat.{ℕ, ◌+◌, ◌-◌, ◌≤◌}
 use lib.ListN.{length, take, drop}
@@ -26,19 +25,7 @@ here c = rw c.in-Some.ensures.steps at c.loop-segment.invariant
 
 pub loop-segment-init : goal.loop-segment-init
 loop-segment-init c =
-    let d = c.default-card.ensures in
-    let none : c.default-card.result ≡ no_card
-    = λ j. record {
-      place = d.0 j;
-      pts = d.1.0 j;
-      composition_number = d.1.1.0 j;
-      composition_state = d.1.1.1.0 j;
-      palette_id = d.1.1.1.1.0 j;
-      objects = d.1.1.1.1.1.0 j;
-      width = d.1.1.1.1.1.1.0 j;
-      height = d.1.1.1.1.1.1.1 j;
-    } in
-    writing c.args.sets.stream.now c.args.out.now c.args.sets.verdict none (ap segments_left c.into_iter-segment-iterator.ensures.into_iter_gives)
+    writing c.args.sets.stream.now c.args.out.now c.args.sets.verdict c.default-card.ensures.1.1.1 (ap segments_left c.into_iter-segment-iterator.ensures.into_iter_gives)
 
 -- the body is no error, since its segment is accepted
 read_whole : (s : List ℕ) {start now : List ℕ} {d : Card} {x : PlacedSegment} {xs : List PlacedSegment} {k : ℕ} {t : SegmentType}
@@ -54,8 +41,7 @@ unwrap-body-requires c =
 -- the line has its place
 fits : (c : Then-is_end) → c.loop-segment.k + 35 ≤ length c.loop-segment.out
 fits c =
-    line-fits c.args.sets.stream.now (rw c.in-Some.ensures.steps at c.loop-segment.invariant) c.kind-kind.ensures
-    (ap outcome (sym c.unwrap-body.ensures) ∙ (rw c.body-bytes.ensures at c.parse.ensures)) c.is_end.ensures
+    line-fits c.args.sets.stream.now (rw c.in-Some.ensures.steps at c.loop-segment.invariant) c.kind-kind.ensures c.is_end.ensures
     c.if-is_end.true c.requires
 
 pub slice_bounds-put_line-end : goal.slice_bounds-put_line-end
@@ -63,11 +49,10 @@ slice_bounds-put_line-end c = fits (goal.at.slice_bounds-put_line-end c).Then-is
 
 pub loop-segment-preserved-then-is_end : goal.loop-segment-preserved-then-is_end
 loop-segment-preserved-then-is_end c =
-    line-put c.args.sets.stream.now (here (goal.at.loop-segment-preserved-then-is_end c).In-Some) c.kind-kind.ensures
-    (ap outcome (sym c.unwrap-body.ensures) ∙ (rw c.body-bytes.ensures at c.parse.ensures)) c.is_end.ensures
+    line-put c.args.sets.stream.now (here (goal.at.loop-segment-preserved-then-is_end c).In-Some) c.kind-kind.ensures c.is_end.ensures
     c.if-is_end.true c.requires c.put_line.ensures
 
 pub loop-segment-preserved : goal.loop-segment-preserved
 loop-segment-preserved c =
-    goes_on c.args.sets.stream.now (here (goal.at.loop-segment-preserved c).In-Some) c.kind-kind.ensures (ap outcome (sym c.unwrap-body.ensures) ∙ (rw c.body-bytes.ensures at c.parse.ensures))
-    c.is_end.ensures c.if-is_end.false c.after-card.ensures
+    goes_on c.args.sets.stream.now (here (goal.at.loop-segment-preserved c).In-Some) c.kind-kind.ensures c.is_end.ensures
+    (ap outcome (sym c.unwrap-body.ensures) ∙ (rw c.body-bytes.ensures at c.parse.ensures)) c.if-is_end.false c.take.ensures

@@ -30,14 +30,14 @@ loop-object-preserved g c =
       | in-Some w ↦
           let k = w.joined_len-at.ensures ∙ ap record_joined w.object_record-record.ensures in
           let next =
-          rows-next g.R.FromObject.from_object c.loop-object.at w.in-Some.ensures.steps
-          (w.from_object.ensures ∙ ap g.R.FromObject.from_object w.object_record-record.ensures) k in (
+          rows-next g.R.FromRecord.from_record c.loop-object.at w.in-Some.ensures.steps
+          (w.from_record.ensures ∙ ap g.R.FromRecord.from_record w.object_record-record.ensures) k in (
             omega (arith, w.at-is, k, ap joined_in w.in-Some.ensures.steps, c.loop-object.invariant.0),
             rw (w.at-is, w.object-items-is)
-                (stored w.from_object.result (rw next at c.loop-object.invariant.1) (omega (arith, c.loop-object-test.true, c.loop-object.auto.object-items))),
+                (stored w.from_record.result (rw next at c.loop-object.invariant.1) (omega (arith, c.loop-object-test.true, c.loop-object.auto.object-items))),
           )
       | in_default w ↦
-          let made = g.R.FromObject.from_object in
+          let made = g.R.FromRecord.from_record in
           let rows = c.args.rows.now in
           let left = c.loop-object.left.rest.now in
           let at = c.loop-object.at in
@@ -58,7 +58,7 @@ loop-object-preserved g c =
 
 pub returns : goal.returns
 returns g c =
-    let made = g.R.FromObject.from_object in
+    let made = g.R.FromRecord.from_record in
     let rows = c.args.rows.now in
     let whole : length (map made (records_from 0 rows)) ≡ length rows = length-map (records_from 0 rows) made ∙ rows-length 0 rows in
     let all =

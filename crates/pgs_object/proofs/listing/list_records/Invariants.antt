@@ -7,6 +7,6 @@ use Rattle.pgs_object.proofs.listing.list_records.Given as goal
 
 abbrev pub invariant-loop-object : goal.invariant-loop-object
 invariant-loop-object g l =
-    let records = map g.R.FromObject.from_object in
+    let records = map g.R.FromRecord.from_record in
     (l.at + joined_in l.left.rest.now ≡ joined_in l.rows)
     × Front l.initial.object-items (records (records_from 0 l.rows)) l.object-items (records (records_from l.at l.left.rest.now)) l.object-index

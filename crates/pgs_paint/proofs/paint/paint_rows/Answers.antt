@@ -16,7 +16,7 @@ target : (w n x : ℕ) {place : ℕ} → place ≡ w * n + x → 4 * place ≡ 4
 target w n x e = ap (λ (k : ℕ). 4 * k) e ∙ mul-add 4 (w * n) x ∙ ap (λ (k : ℕ). k + 4 * x) (sym (mul_assoc 4 w n))
 
 pub loop-j-init : goal.loop-j-init
-loop-j-init c = λ layer e. rows-begin _ layer _ _ _ _ e _
+loop-j-init c = λ t front layer e. rows-begin _ layer _ _ _ _ e _
 
 pub slice_bounds-paint_row-end : goal.slice_bounds-paint_row-end
 slice_bounds-paint_row-end c =
@@ -37,18 +37,18 @@ loop-j-preserved c =
     let columns = c.from-columns.ensures in
     let from = c.place-from.ensures in
     let to = target args.size.width (visible.y + loop.j) visible.x c.place-to.ensures in
-    λ layer e.
+    λ t front layer e.
     rw (columns, to)
-    (row_laid args.table.bytes.now args.image.indices.now args.plane.now loop.plane c.paint_row.new.row visible args.image.size.width
+    (row_laid t args.image.indices.now args.plane.now loop.plane c.paint_row.new.row visible args.image.size.width
     args.image.size.height args.size.width args.size.height loop.j (here (goal.at.loop-j-preserved c).In-loop-j)
     (omega (arith, c.loop-j-test.true, c.from-j-end.ensures)) pre.image_room pre.plane_room loop.auto.plane
-    (rw (columns, from) at c.paint_row.ensures) layer e (loop.invariant layer e))
+    (rw (columns, from) at (c.paint_row.ensures t front)) layer e (loop.invariant t front layer e))
 
 pub returns : goal.returns
 returns c =
     let loop = c.loop-j in
     let inside = (c.requires.bounds.rows_inside c.requires.some_rows).1 in
     let last = c.from-j-end.ensures in
-    λ layer e.
-    loop.invariant layer e
+    λ t front layer e.
+    loop.invariant t front layer e
     ∙ rows_end _ layer c.args.visible _ _ _ e _ loop.j inside (omega (arith, loop.auto.j-end, last)) (omega (arith, c.loop-j-test.false, last))

@@ -1,13 +1,15 @@
 -- `lay_palette` hands the entries over, with the id of their palette.
 -- Assumes nothing.
-use Rattle.pgs_base.proofs.Bytes.{num-byte}
-use Rattle.pgs_pds.proofs.PdsLaws.{has-numbers}
-use Rattle.pgs_rendering.proofs.PaletteLaws.{chunks-are, chunks-laid}
+use Rattle.pgs_palette.specs.Palette.{entry_of}
+use Rattle.pgs_pds.specs.declared.pds.Pds.{Pds}
+use Rattle.pgs_rendering.proofs.PaletteLaws.{chunks-laid}
+use mathlib.Core.List.{List, map}
+use mathlib.Core.Path.{ap}
 use native.Mathlib.Omega.{arith}
+use Prim.Native.Nat.{ℕ}
 use Rattle.pgs_render.proofs.palette.lay_palette.Goals as goal
 
 pub returns : goal.returns
 returns c =
-    let body = c.args.body.now in
-    let two = has-numbers body c.requires in
-    chunks-laid body c.args.named (omega arith) (num-byte 0 body (omega arith)) (chunks-are body two c.as_chunks.ensures.front) c.apply.ensures
+    chunks-laid c.args.body.now c.args.named (omega arith) (ap (λ (p : Pds). p.palette_id) c.numbers.ensures)
+    (ap (λ (es : List (List ℕ)). map entry_of es) c.entries.ensures) c.apply.ensures

@@ -28,20 +28,22 @@ module _ (l : List ℕ) {h : SegmentHeader} (e : gives h ≡ outcome_of (header_
 pub returns-in_err-list : goal.returns-in_err-list
 returns-in_err-list c =
     let l = c.args.buf.now in
-    let e = (c.in_ok-header.ensures) in
+    let e = c.in_ok-header.ensures in
+    let got = rw c.in_ok-body.ensures.ok_part at c.get.ensures.lookup.0 in
     passed_on c.from_residual-in_err-list.result _ c.from_residual-in_err-list.ensures.1
     ∙ refuses-as (frame_of l)
-    (body-decides l (ok l e) (omega (arith, size_is l e))
+    (body-decides l (ok l e) (omega (arith, size_is l e, c.used.ensures, got))
     ∙ turned_down (body_verdict (segment_type l) (body_at l)) (body_list (segment_type l) (body_at l))
-    (lent-body l (c.kind-kind.ensures ∙ ap type_of (kind-is l e)) (size_is l e) (rw c.used-used.ensures at c.in_err-list.ensures)))
+    (lent-body l (c.kind.ensures ∙ ap type_of (kind-is l e)) (size_is l e) (rw (got.2, c.used.ensures) at c.in_err-list.ensures)))
 
 pub returns : goal.returns
 returns c =
     let l = c.args.buf.now in
-    let e = (c.in_ok-header.ensures) in
-    let q = lent-body l (c.kind-kind.ensures ∙ ap type_of (kind-is l e)) (size_is l e) (rw c.used-used.ensures at c.in_ok-list.ensures) in
+    let e = c.in_ok-header.ensures in
+    let got = rw c.in_ok-body.ensures.ok_part at c.get.ensures.lookup.0 in
+    let q = lent-body l (c.kind.ensures ∙ ap type_of (kind-is l e)) (size_is l e) (rw (got.2, c.used.ensures) at c.in_ok-list.ensures) in
     gives_as
-    (body-decides l (ok l e) (omega (arith, size_is l e))
+    (body-decides l (ok l e) (omega (arith, size_is l e, c.used.ensures, got))
     ∙ gave (body_verdict (segment_type l) (body_at l)) (body_list (segment_type l) (body_at l)) q)
     (λ j. record {
       header = gave-value (header_verdict l) (header_fields l) e j;

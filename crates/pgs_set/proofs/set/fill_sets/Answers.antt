@@ -1,19 +1,18 @@
--- `fill_sets` stores a row for each set: at the end of the list all are stored.
+-- `fill_sets` stores a record for each set: at the end of the list all are stored.
 -- Assumes nothing.
 use Rattle.pgs_base.proofs.Front.{begins, filled-whole}
-use Rattle.pgs_set.proofs.RecordLaws.{rows-of-records}
-use Rattle.pgs_set.proofs.SetLaws.{set-rows}
-use Rattle.pgs_set.specs.Sets.{set_rows}
+use Rattle.pgs_set.proofs.RecordLaws.{set-records}
+use Rattle.pgs_set.specs.Records.{set_records}
+use mathlib.Core.List.{map}
 use mathlib.Core.Path.{sym, ◌∙◌}
 use native.Mathlib.Omega.{arith}
 use Rattle.pgs_set.proofs.set.fill_sets.Goals as goal
 
-pub loop-row-init : goal.loop-row-init
-loop-row-init c =
-    let s = c.args.sets.stream.now in
-    rw (c.records-records.ensures, rows-of-records s) (begins c.args.rows.now (set_rows s))
+pub loop-record-init : goal.loop-record-init
+loop-record-init g c =
+    rw c.records-records.ensures (begins c.args.list.now (map g.R.FromRecord.from_record (set_records c.args.sets.stream.now)))
 
 pub returns : goal.returns
-returns c =
-    filled-whole c.loop-row.invariant (omega arith)
-    (set-rows c.args.sets.stream.now ∙ sym c.args.sets.counted ∙ c.requires)
+returns g c =
+    filled-whole c.loop-record.invariant (omega arith)
+    (set-records g.R.FromRecord.from_record c.args.sets.stream.now ∙ sym c.args.sets.counted ∙ c.requires)

@@ -2,10 +2,10 @@
 -- Assumes nothing.
 use Rattle.std.specs.Prelude.{map}
 use Rattle.pgs_base.proofs.Front.{Front}
-use Rattle.pgs_stream.specs.Segments.{placed_record, segments_left}
+use Rattle.pgs_stream.specs.Segments.{segments_left}
 use Rattle.pgs_stream.proofs.stream.fill_segments.Given as goal
 
 abbrev pub invariant-loop-record : goal.invariant-loop-record
 invariant-loop-record g l =
-    let records = map (placed_record g.R.FromHeader.from_header) in
+    let records = map g.R.FromRecord.from_record in
     Front l.initial.record-items (records (segments_left l.initial.segments)) l.record-items (records (segments_left l.segments)) l.record-index

@@ -9,7 +9,7 @@ use Rattle.pgs_views.specs.declared.segment_type.SegmentType.{SegmentType}
 use Rattle.pgs_segment.specs.Fields.{body_verdict, SegmentFields}
 use Rattle.pgs_writer_base.specs.declared.head.Timestamps.{Timestamps}
 use Rattle.pgs_writer_base.specs.Kinds.{segment_with}
-use Rattle.pgs_stream_writer.proofs.ReadAgain.{windows-read, entries-read, placements-read, never-refused, room, front, front_length, written-again, same_write, marked}
+use Rattle.pgs_stream_writer.proofs.ReadAgain.{windows-read, entries-again, placements-read, never-refused, room, front, front_length, written-again, same_write, marked}
 use Rattle.pgs_pcs.specs.PcsBody.{placements_of}
 use mathlib.Core.List.{List}
 use mathlib.Core.Path.{◌≡◌, sym, ap, ◌∙◌}
@@ -25,17 +25,10 @@ module _ {k t : SegmentType} (b : List ℕ) (e : k ≡ t) where
   fields-at : (s : Timestamps) {f : SegmentFields} → f ≡ segment_with s.pts s.dts t b → f ≡ segment_with s.pts s.dts k b
   fields-at s q = q ∙ sym (ap (λ (x : SegmentType). segment_with s.pts s.dts x b) e)
 
-pub returns-in_err-pds-in-Pds : goal.returns-in_err-pds-in-Pds
-returns-in_err-pds-in-Pds c =
+pub returns-in-Pds : goal.returns-in-Pds
+returns-in-Pds c =
     let b = c.args.body.now in
-    absurd
-    (never-refused (entries-read c.args.times b) (verdict-at b c.in-Pds.is c.requires.body_value) (omega (arith, c.requires.body_len_bound))
-    c.in_err-pds-in-Pds.ensures)
-
-pub returns-in_ok-pds-in-Pds : goal.returns-in_ok-pds-in-Pds
-returns-in_ok-pds-in-Pds c =
-    let b = c.args.body.now in
-    let same = written-again (entries-read c.args.times b) c.in_ok-pds-in-Pds.ensures in
+    let same = entries-again c.args.times b c.numbers.ensures c.entries.ensures in
     same_write (fields-at b c.in-Pds.is c.args.times same) c.encode_pds.ensures
 
 pub returns-in_err-pcs-in-Pcs : goal.returns-in_err-pcs-in-Pcs

@@ -5,4 +5,6 @@ use Rattle.pgs_stream_writer.proofs.StreamWriteLaws.{Performing}
 use Rattle.pgs_stream_writer.proofs.stream.write_first.Given as goal
 
 abbrev pub invariant-loop-segment : goal.invariant-loop-segment
-invariant-loop-segment l = Performing l.s l.n l.initial.out l.out l.segment-iterator.n (segments_left l.segment-iterator.iter) l.at l.accepted
+invariant-loop-segment l =
+    let start = l.initial.segments in
+    Performing start.stream.now start.at l.n l.initial.out l.out l.segment-iterator.n (segments_left l.segment-iterator.iter) l.bytes l.accepted

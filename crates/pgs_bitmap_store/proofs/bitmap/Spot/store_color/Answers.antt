@@ -11,11 +11,11 @@ pub store_literal-requires-clause-storing : goal.store_literal-requires-clause-s
 store_literal-requires-clause-storing c =
     let l = c.args.«data».now in
     let at = c.args.self.at in
-    let low = c.short_count-count.ensures in
-    let filled = c.fill_short in
-    let next = c.further.ensures in
+    let low = c.short_count.ensures in
+    let filled = c.store_short in
+    let next = filled.ensures.past in
     let code = c.requires.code in
     rw next
     (storing-escape c.requires.storing (omega arith) code.zero
     (run-short-color (get_or l (at + 1) 0) _ (get_or l (at + 2) 0 ∷ get_or l (at + 3) 0 ∷ []) low (omega (arith, code.from_low)) code.from_low code.to_high)
-    filled.auto.pixels filled.ensures)
+    filled.auto.pixels filled.ensures.filled)

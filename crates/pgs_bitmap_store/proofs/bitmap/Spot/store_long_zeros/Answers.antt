@@ -5,7 +5,7 @@ use Prim.Native.Nat.{ℕ, ◌+◌, ◌*◌, ◌%◌, ◌≤◌, ◌<◌}
 use native.Mathlib.Omega.{arith}
 use Rattle.pgs_run_length.specs.RunLength.{run, found, run_of}
 use Rattle.pgs_run_length.proofs.OneCode.{run-long-zero}
-use Rattle.pgs_bitmap_store.proofs.BitmapStores.{block-fills, storing-escape}
+use Rattle.pgs_bitmap_store.proofs.BitmapStores.{block-fills, storing-escape, storing-past}
 use Rattle.pgs_bitmap_store.proofs.bitmap.Spot.store_long_zeros.Goals as goal
 
 -- the run that the code is
@@ -25,8 +25,9 @@ store_literal-requires-clause-storing c =
 
 pub returns : goal.returns
 returns c =
-    let filled = c.fill_run in
+    let filled = c.store_run in
     let code = c.requires.code in (
       omega arith,
-      storing-escape c.requires.storing (omega arith) code.zero (the-run _ _ _ c.long_count-count.ensures.0 code.from_low code.to_high) filled.auto.pixels filled.ensures.filled,
+      storing-past filled.ensures.past
+          (storing-escape c.requires.storing (omega arith) code.zero (the-run _ _ _ c.long_count-count.ensures.0 code.from_low code.to_high) filled.auto.pixels filled.ensures.filled),
     )

@@ -1,13 +1,14 @@
 -- `store_rest` meets its contract. The loop's invariant: the pixels of the codes before this spot are stored. The measure is what is
 -- left of the data. Assumes nothing.
 use mathlib.Core.Path.{◌≡◌, ◌∙◌, ap}
+use native.Mathlib.Nat.{add-zero}
 use lib.ListN.{drop}
 use Rattle.std.specs.Prelude.{None, Ok}
 use Rattle.pgs_run_length.specs.RunLength.{code_of}
 use Rattle.pgs_run_length.specs.NextCode.{first_code}
 use Rattle.pgs_run_length.specs.declared.code.Code.{Code}
 use Rattle.pgs_run_length.proofs.Answered.{answered-code, answered-none, answered-error}
-use Rattle.pgs_bitmap_store.proofs.BitmapStores.{storing-run, storing-line, storing-truncated, storing-end, behind-later}
+use Rattle.pgs_bitmap_store.proofs.BitmapStores.{storing-run, storing-line, storing-past, storing-truncated, storing-end, behind-later}
 use Rattle.pgs_bitmap_store.proofs.bitmap.Spot.store_rest.Goals.{In-Ok-Some}
 use Rattle.pgs_bitmap_store.proofs.bitmap.Spot.store_rest.Goals as goal
 
@@ -18,15 +19,16 @@ code-here c is = answered-code c.args.«data».now c.loop-code.spot.at c.next_co
 pub loop-code-preserved-in-Run : goal.loop-code-preserved-in-Run
 loop-code-preserved-in-Run c =
     let code = code-here ((goal.at.loop-code-preserved-in-Run c).In-Ok-Some) c.in-Run.is in (
-      c.fill_run.auto.pixels ∙ c.loop-code.invariant.0,
-      storing-run c.loop-code.invariant.1 code c.fill_run.auto.pixels c.fill_run.ensures.filled,
-      behind-later _ _ _ c.fill_run.ensures.filled.order c.loop-code.invariant.2 c.fill_run.ensures.behind,
+      c.store_run-spot.auto.pixels ∙ c.loop-code.invariant.0,
+      storing-past c.store_run-spot.ensures.past (storing-run c.loop-code.invariant.1 code c.store_run-spot.auto.pixels c.store_run-spot.ensures.filled),
+      behind-later _ _ _ c.store_run-spot.ensures.filled.order c.loop-code.invariant.2 c.store_run-spot.ensures.behind,
     )
 
 pub loop-code-preserved : goal.loop-code-preserved
 loop-code-preserved c =
     let code = code-here ((goal.at.loop-code-preserved c).In-Ok-Some) c.in-LineEnd.is in
-    (c.loop-code.invariant.0, storing-line c.loop-code.invariant.1 code, c.loop-code.invariant.2)
+    let next = c.further-spot.ensures in
+    rw (next, add-zero) (c.loop-code.invariant.0, storing-line c.loop-code.invariant.1 code, c.loop-code.invariant.2)
 
 -- no code is left
 pub returns-in_default-clause-stored : goal.returns-in_default-clause-stored

@@ -21,17 +21,17 @@ returns-then-self-i c =
     let t = c.self.inside in
     opened-closed c.args.f t.rows t.count (omega arith) c.self.view_is c.in-Some.ensures c.if-self-i.true
 
-pub returns-else-self-i : goal.returns-else-self-i
-returns-else-self-i c =
+pub returns-in-Some : goal.returns-in-Some
+returns-in-Some c =
     let t = c.self.inside in
     opened-open c.args.f t.rows t.count (omega arith) c.self.view_is c.in-Some.ensures c.if-self-i.false
 
 pub returns-then-self-eq-OBJECT_LIMIT : goal.returns-then-self-eq-OBJECT_LIMIT
 returns-then-self-eq-OBJECT_LIMIT c =
     let t = c.self.inside in
-    opened-full c.args.f t.rows t.count (omega arith) c.self.view_is c.in-None.ensures c.if-self-eq-OBJECT_LIMIT.true
+    opened-full c.args.f t.rows t.count (omega arith) c.self.view_is c.in_default.ensures c.if-self-eq-OBJECT_LIMIT.true
 
-pub returns-else-self-eq-OBJECT_LIMIT : goal.returns-else-self-eq-OBJECT_LIMIT
-returns-else-self-eq-OBJECT_LIMIT c =
+pub returns : goal.returns
+returns c =
     let t = c.self.inside in
-    opened-new c.args.f t.rows t.count (omega arith) c.self.view_is c.in-None.ensures (omega arith) (omega arith) c.is_last.ensures
+    opened-new c.args.f t.rows t.count (omega arith) c.self.view_is c.in_default.ensures (omega arith) (omega arith) c.is_last.ensures

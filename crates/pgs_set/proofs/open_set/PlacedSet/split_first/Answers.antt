@@ -1,11 +1,16 @@
-use Rattle.pgs_set.proofs.SetLaws.{size-read, opens-here}
+use Rattle.pgs_set.proofs.SetLaws.{opens-here}
+use Rattle.pgs_stream.specs.declared.segments.PlacedSegment.{PlacedSegment}
 use Rattle.std.proofs.lemmas.Grind.{merely}
-use lib.ListN.{drop}
-use mathlib.Core.Path.{◌∙◌}
+use mathlib.Core.Path.{ap}
 use Rattle.pgs_set.proofs.open_set.PlacedSet.split_first.Goals as goal
+
+pub segment_at-pcs-requires-clause-stream_good : goal.segment_at-pcs-requires-clause-stream_good
+segment_at-pcs-requires-clause-stream_good c = c.args.self.begins.standing.good
+
+pub segment_at-pcs-requires-clause-place_bound : goal.segment_at-pcs-requires-clause-place_bound
+segment_at-pcs-requires-clause-place_bound c = c.args.self.begins.more
 
 pub invariant_of-others : goal.invariant_of-others
 invariant_of-others c =
-    let s = c.args.self.stream.now in
-    let at = c.args.self.place in
-    record { in_set = rw (c.used.ensures ∙ size-read (drop at s) c.header_at-header.ensures) (merely (opens-here s c.args.self.begins.standing c.args.self.begins.more)) }
+    let it = c.args.self in
+    record { in_set = rw (ap (λ (x : PlacedSegment). x.end) c.segment_at-pcs.ensures) (merely (opens-here it.stream.now it.begins.standing it.begins.more)) }

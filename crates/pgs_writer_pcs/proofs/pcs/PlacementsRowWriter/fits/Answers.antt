@@ -17,5 +17,6 @@ cell-fits c k = search rules
 cell : (c : Start) (k : ℕ) → get_or c.args.row k 0 < 65536
 cell c k = (cell-fits c k).fits
 
-pub returns-then-row-from : goal.returns-then-row-from
-returns-then-row-from c = sym (fits-cropped c.args.row (cell (goal.at.returns-then-row-from c).Start) c.if-row-gt-ONE_BYTE.false c.if-row-gt-ONE_BYTE-2.false (c.if-row-from.true ∙ c.from.ensures))
+pub returns-then-flag-from : goal.returns-then-flag-from
+returns-then-flag-from c =
+    sym (fits-cropped c.args.row (cell (goal.at.returns-then-flag-from c).Start) c.if-window-gt-ONE_BYTE.false c.if-flag-gt-ONE_BYTE.false (c.if-flag-from.true ∙ c.from.ensures))

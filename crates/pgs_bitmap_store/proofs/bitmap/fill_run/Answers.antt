@@ -1,7 +1,0 @@
--- `fill_run` meets its contract: the run, or what of it there is room for. Assumes nothing.
-use native.Mathlib.Omega.{arith}
-use Rattle.pgs_bitmap_store.proofs.BitmapStores.{filled-behind}
-use Rattle.pgs_bitmap_store.proofs.bitmap.fill_run.Goals as goal
-
-pub returns-clause-behind : goal.returns-clause-behind
-returns-clause-behind c = filled-behind c.args.pixels.now _ c.args.from c.min-stored.result c.args.color (omega arith) c.fill_exactly.ensures
