@@ -174,7 +174,7 @@ impl Spot {
         requires literals { Literals «data».now self.at 8 }
         requires room { self.out + 8 ≤ length pixels.old }
         requires storing { Storing «data».now pixels.old self }
-        ensures { (self.at < result.at) × Storing «data».now pixels.new result }
+        ensures { (result ≡ further self 8 8) × Storing «data».now pixels.new result }
     {
         let Some(eight) = data[self.at..].first_chunk::<8>() else {
             unreachable!();

@@ -6,7 +6,7 @@ ghost use Rattle.pgs_cards.specs.Cards.{card_lines, cards_verdict};
 use crate::card::Card;
 use crate::line::{LINE, put_line};
 use pgs_base::refusal::Refusal;
-use pgs_object::object::read_checked_sets;
+use pgs_object::object::check_objects;
 use pgs_segment::segment::SegmentBody;
 use pgs_set::display_sets::DisplaySets;
 use pgs_stream::segments::Segments;
@@ -55,9 +55,9 @@ pub(crate) fn put_lines(sets: DisplaySets<'_>, out: &mut [u8]) -> Result<usize, 
 pub fn write_cards(s: &[u8], out: &mut [u8]) -> Result<usize, Refusal>
     ensures { Delivered (cards_verdict s.now) (length (card_lines s.now)) (card_lines s.now) out.old out.new (outcome result) }
 {
-    let sets = read_checked_sets(s)?;
+    let count = check_objects(s)?;
     if PLACE_LIMIT < s.len() {
         return Err(Refusal::NotEncodable);
     }
-    put_lines(sets, out)
+    put_lines(DisplaySets { stream: s, count }, out)
 }

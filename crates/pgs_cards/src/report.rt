@@ -6,7 +6,8 @@ ghost use Rattle.pgs_cards.specs.Reports.{refusal_line, report_of};
 
 use crate::cards::put_lines;
 use pgs_base::refusal::Refusal;
-use pgs_object::object::read_checked_sets;
+use pgs_object::object::check_objects;
+use pgs_set::display_sets::DisplaySets;
 
 // The longest input that is read.
 pub const INPUT_LIMIT: usize = 65536;
@@ -46,8 +47,8 @@ pub fn write_report(s: &[u8], out: &mut [u8]) -> Result<usize, Refusal>
     if INPUT_LIMIT < s.len() {
         return put_text(b"TOO LONG\n", out);
     }
-    match read_checked_sets(s) {
-        Ok(sets) => put_lines(sets, out),
+    match check_objects(s) {
+        Ok(count) => put_lines(DisplaySets { stream: s, count }, out),
         Err(why) => put_refusal(why, out),
     }
 }

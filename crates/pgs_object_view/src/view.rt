@@ -1,8 +1,13 @@
 // The view of an object's data (01, module 7).
 ghost use Rattle.std.specs.Prelude.{◌≡◌};
-ghost use Rattle.pgs_reassembly.specs.Reassembly.{shown_by};
+ghost use Rattle.pgs_object_view.specs.View.{part_of, shown_by};
 
-use pgs_reassembly::part;
+// The part of `s` from `at`, of `n` bytes; empty where it would pass the end.
+pub fn part<'a>(s: &'a [u8], at: usize, n: usize) -> &'a [u8]
+    ensures { result.now ≡ part_of at n s.now }
+{
+    s.get(at..).and_then(|rest| rest.get(..n)).unwrap_or(&[])
+}
 
 // The data of an object, as a part of the stream or of the scratch, whichever holds it. A record that no call made, and that points
 // outside its holder, shows the empty part.

@@ -4,6 +4,7 @@
 -- scratch, whichever holds it. Object records (id, version, width, height, holder, place, length) fill a caller's list."
 use Rattle.std.specs.Prelude.{ℕ, ◌+◌, ◌-◌, ◌≡◌, Bool, true, false, List, [], ◌∷◌, ◌++◌, map, leb, eqb, length, take, drop, get_or}
 use Rattle.pgs_base.specs.Outcome.{Verdict, Outcome, outcome_of, and_then, needing, laid, delivery, pick}
+pub use Rattle.pgs_object_view.specs.View.{part_of, shown_by}
 use Rattle.pgs_reassembly.specs.Objects.{Fragment, Chain, object_id, version_of, object_size, data_of, data_place}
 use Rattle.pgs_reassembly.specs.declared.ObjectRecord.{ObjectRecord}
 
@@ -77,17 +78,6 @@ pub record Joined (verdict : Verdict) (cs : List Chain) (scratch scratch' : List
   pub answered : answer ≡ delivery verdict (joined_data cs) scratch
   pub written : scratch' ≡ laid (delivery verdict (joined_data cs) scratch) (joined_data cs) scratch
 
--- the part of a list from a place, of a length; empty where it would pass the end
-abbrev pub part_of : ℕ → ℕ → List ℕ → List ℕ
-part_of at n l = pick (leb at (length l)) (pick (leb n (length l - at)) (take n (drop at l)) []) []
-
 -- the data that a record shows, of the scratch where it is copied, else of the stream
 abbrev pub record_data : List ℕ → List ℕ → ObjectRecord → List ℕ
 record_data stream scratch r = pick r.copied (part_of r.place r.len scratch) (part_of r.place r.len stream)
-
--- the same of a row: of the stream where its holder is 0, of the scratch where it is 1. That this is the object's data,
--- for the records and the scratch that an accepted call leaves, is the law `shown-after` of proofs/ViewLaws.antt
-abbrev pub shown_by : List ℕ → List ℕ → List ℕ → List ℕ
-shown_by stream scratch r =
-    pick (eqb (get_or r 4 0) 0) (part_of (get_or r 5 0) (get_or r 6 0) stream)
-    (pick (eqb (get_or r 4 0) 1) (part_of (get_or r 5 0) (get_or r 6 0) scratch) [])

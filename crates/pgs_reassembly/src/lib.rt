@@ -3,10 +3,12 @@
 #![tactic(auto)]
 
 ghost use Rattle.std.specs.Prelude.{◌≡◌};
-ghost use Rattle.pgs_reassembly.specs.Reassembly.{part_of, record_data, record_joined, row_of};
+ghost use Rattle.pgs_reassembly.specs.Reassembly.{record_data, record_joined, row_of};
 
 use pgs_base::dimensions::Dimensions;
 use pgs_base::record::FromRecord;
+use pgs_object_view::view::object_data;
+pub use pgs_object_view::view::part;
 use pgs_ods::ods::Ods;
 
 // The numbers of a fragment, and where its data stands.
@@ -69,13 +71,6 @@ impl FromRecord<ObjectRecord> for [u64; 7] {
     }
 }
 
-// The part of `s` from `at`, of `n` bytes; empty where it would pass the end.
-pub fn part<'a>(s: &'a [u8], at: usize, n: usize) -> &'a [u8]
-    ensures { result.now ≡ part_of at n s.now }
-{
-    s.get(at..).and_then(|rest| rest.get(..n)).unwrap_or(&[])
-}
-
 impl ObjectRecord {
     // How many bytes of the scratch its joined data takes.
     pub fn joined_len(self) -> usize
@@ -89,7 +84,6 @@ impl ObjectRecord {
     pub fn data<'a>(self, stream: &'a [u8], scratch: &'a [u8]) -> &'a [u8]
         ensures { result.now ≡ record_data stream.now scratch.now self }
     {
-        let holder = if self.copied { scratch } else { stream };
-        part(holder, self.place, self.len)
+        object_data(stream, scratch, <[u64; 7]>::from_record(self))
     }
 }

@@ -17,10 +17,11 @@ ghost use Rattle.pgs_segment.specs.OneSegment.{body_at};
 ghost use Rattle.pgs_set.specs.Walks.{set_at};
 
 use crate::painting::{StoredBitmaps, paint_placements};
-use crate::palette::color_table;
+use crate::palette::fill_table;
 use pgs_base::dimensions::Dimensions;
 use pgs_base::refusal::Refusal;
 use pgs_object::object::join_in_set;
+use pgs_palette::palette::TABLE_LEN;
 use pgs_pcs::pcs::Pcs;
 use pgs_pcs::placements::Placements;
 use pgs_plane::plane::{clear_plane, plane_bytes};
@@ -93,7 +94,8 @@ impl<'a> ListedSet<'a> {
         ensures { Showing (display_set self.entry) scratch.old scratch.new plane.old plane.new }
     {
         self.store_bitmaps(joined, scratch);
-        let table = color_table(self.set.open(), self.composition().palette_id);
+        let mut table = [0; TABLE_LEN];
+        fill_table(self.set.open(), self.composition().palette_id, &mut table);
         let size = self.answer().size;
         let _ = clear_plane(size, plane);
         let bitmaps = StoredBitmaps {

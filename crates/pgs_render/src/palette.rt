@@ -26,15 +26,15 @@ fn lay_palette(body: &[u8], named: u8, table: &mut [u8; TABLE_LEN])
     );
 }
 
-// The table of a set, for the palette that its PCS names.
-pub(crate) fn color_table(set: OpenSet<'_>, named: u8) -> [u8; TABLE_LEN]
-    ensures { result ≡ laid rgb_of (entries_among named (through_end (pieces_at set.entry.stream.now set.entry.from))) empty_table }
+// Lays the palettes of a set over an empty table, for the palette that its PCS names.
+// Stays with the table lent: handed back, its bytes would be copied.
+pub(crate) fn fill_table(set: OpenSet<'_>, named: u8, table: &mut [u8; TABLE_LEN])
+    requires { table.old ≡ empty_table }
+    ensures { table.new ≡ laid rgb_of (entries_among named (through_end (pieces_at set.entry.stream.now set.entry.from))) empty_table }
 {
-    let mut table = [0; TABLE_LEN];
     for segment in set.segments() {
         if segment.header.kind().is_pds() {
-            lay_palette(segment.body(set.stream), named, &mut table);
+            lay_palette(segment.body(set.stream), named, table);
         }
     }
-    table
 }

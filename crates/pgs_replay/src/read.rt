@@ -3,7 +3,7 @@ use crate::print;
 use pgs_bitmap::bitmap::decode_rle;
 use pgs_cards::cards::write_cards;
 use pgs_color::ycbcr::{Rgb8, ycbcr709_to_rgb};
-use pgs_object::object::reassemble_objects;
+use pgs_object::object::{list_objects, reassemble_objects};
 use pgs_ods::ods::Ods;
 use pgs_palette::palette::{TABLE_LEN, apply, clear, get};
 use pgs_pcs::pcs::Pcs;
@@ -87,7 +87,16 @@ pub(crate) fn sets(rt: &impl Print, input: &[u8]) -> io::Result<()> {
 pub(crate) fn objects(rt: &impl Print, input: &[u8], set: u16) -> io::Result<()> {
     let mut scratch = [9u8; 12];
     let mut list = [[9u64; 7]; 3];
-    let answer = reassemble_objects(input, usize::from(set), &mut scratch, &mut list);
+    let set = usize::from(set);
+    // Of an accepted call the records that `list_objects` gives are printed: they are the same.
+    let mut listed = list;
+    let mut answer = list_objects(input, set, &mut listed);
+    if answer.is_ok() {
+        answer = reassemble_objects(input, set, &mut scratch, &mut list);
+    }
+    if answer.is_ok() {
+        list = listed;
+    }
     print::answer(rt, "objects", answer)?;
     print::list(rt, &list)?;
     print::list(rt, &scratch)?;

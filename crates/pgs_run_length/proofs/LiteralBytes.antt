@@ -61,6 +61,14 @@ module _ (l : List ℕ) (at : ℕ) where
   literals-said zero e = literals-none
   literals-said (suc n) e = subst (Literals l at) {x = n + 1} {y = suc n} (omega arith) (literals-more n (literals l at n) (literals-said n) e)
 
+  -- the test of what stands from the place on is the test at the place
+  pub literals-there : (n : ℕ) → literals (drop at l) 0 n ≡ literals l at n
+  literals-there zero = refl
+  literals-there (suc n) = λ j. literals-there n j && not (eqb (byte j) 0)
+    where
+      byte : get_or (drop at l) (0 + n) 0 ≡ get_or l (at + n) 0
+      byte = get_or-drop at l (0 + n) 0 ∙ ap (λ (i : ℕ). get_or l i 0) {x = at + (0 + n)} {y = at + n} (omega arith)
+
   -- of what stands from the place on, which is also what is left of the list
   pub literals-behind : (n : ℕ) → Literals (drop at l) 0 n → Literals l at n
   literals-behind n h k below e =

@@ -22,8 +22,29 @@ use pgs_writer_pcs::pcs::encode_pcs;
 // Room for all placements or windows that a count of one byte can name.
 const COUNTED: usize = u8::MAX as usize;
 
-// Writes the segment of this kind and body, which is known to be whole: reading it is never refused.
-// Stays an arm for a PCS and one for a WDS, which are alike: one function for both would need a trait of reading and writing, with two impls.
+// Writes a PCS of the body, which is known to be whole: reading it is never refused. It and the one below are functions of their own, since
+// each call clears all the room that its function has.
+// Stays beside the one of a WDS, which is alike: one function for both would need a trait of reading and writing, with two impls.
+fn rewrite_pcs(times: Timestamps, body: &[u8], out: &mut [u8]) -> Result<usize, Refusal>
+    requires { body_verdict SegmentType.Pcs body.now ≡ accepted }
+    ensures { Wrote (segment_with times.pts times.dts SegmentType.Pcs body.now) out.old out.new result }
+{
+    let mut placements = [[0u16; 10]; COUNTED];
+    let (pcs, n) = Pcs::parse(body, &mut placements)?;
+    encode_pcs(times, pcs, &placements[..n], out)
+}
+
+// Writes a WDS of such a body.
+fn rewrite_wds(times: Timestamps, body: &[u8], out: &mut [u8]) -> Result<usize, Refusal>
+    requires { body_verdict SegmentType.Wds body.now ≡ accepted }
+    ensures { Wrote (segment_with times.pts times.dts SegmentType.Wds body.now) out.old out.new result }
+{
+    let mut windows = [[0u16; 5]; COUNTED];
+    let n = Wds::parse(body, &mut windows)?;
+    encode_wds(times, &windows[..n], out)
+}
+
+// Writes the segment of this kind and body, which is known to be whole.
 pub(crate) fn rewrite_body(
     times: Timestamps,
     kind: SegmentType,
@@ -40,16 +61,8 @@ pub(crate) fn rewrite_body(
             let (ods, data) = Ods::parse(body)?;
             encode_ods(times, ods, &body[data.start..], out)
         }
-        SegmentType::Pcs => {
-            let mut placements = [[0u16; 10]; COUNTED];
-            let (pcs, n) = Pcs::parse(body, &mut placements)?;
-            encode_pcs(times, pcs, &placements[..n], out)
-        }
-        SegmentType::Wds => {
-            let mut windows = [[0u16; 5]; COUNTED];
-            let n = Wds::parse(body, &mut windows)?;
-            encode_wds(times, &windows[..n], out)
-        }
+        SegmentType::Pcs => rewrite_pcs(times, body, out),
+        SegmentType::Wds => rewrite_wds(times, body, out),
         SegmentType::End => encode_end(times, out),
         SegmentType::Other(v) => encode_other(times, v, body, out),
     }

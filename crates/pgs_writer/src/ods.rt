@@ -12,6 +12,7 @@ use pgs_ods::ods::Ods;
 use pgs_views::segment_type::SegmentType;
 use pgs_writer_base::body::encode_data;
 use pgs_writer_base::head::Timestamps;
+use pgs_writer_base::put::put_u24;
 
 // The largest declared length: it takes three bytes.
 const LONGEST: u32 = (1 << 24) - 1;
@@ -31,10 +32,11 @@ fn ods_bytes(o: Ods) -> [u8; Ods::SIZE]
     ensures { result ≡ take 7 (written (ods_fields o)) }
 {
     let [id1, id2] = o.object_id.to_be_bytes();
-    let [_, length1, length2, length3] = o.object_data_length.to_be_bytes();
     let version = o.object_version_number;
     let flag = o.last_in_sequence_flag;
-    [id1, id2, version, flag, length1, length2, length3]
+    let mut bytes = [id1, id2, version, flag, 0, 0, 0];
+    put_u24(&mut bytes, 4, o.object_data_length);
+    bytes
 }
 
 // The same of a first fragment, and its dimensions.

@@ -5,7 +5,7 @@ ghost use Rattle.pgs_encoding.specs.Encode.{head_fields};
 ghost use Rattle.pgs_encoding.specs.Layout.{written};
 ghost use Rattle.pgs_views.specs.Kinds.{raw_of};
 
-use crate::put::{put_bytes, put_u8, put_u16, put_u32};
+use crate::put::{put_array, put_u8, put_u16, put_u32};
 use pgs_segment::header::SegmentHeader;
 use pgs_views::segment_type::SegmentType;
 
@@ -21,7 +21,7 @@ pub struct Timestamps {
 pub fn put_head(out: &mut [u8], times: Timestamps, kind: SegmentType, size: u16)
     ensures { out.new ≡ sets out.old 0 (written (head_fields times.pts times.dts (raw_of kind) size)) }
 {
-    put_bytes(out, 0, &SegmentHeader::MAGIC);
+    put_array(out, 0, &SegmentHeader::MAGIC);
     put_u32(out, 2, times.pts);
     put_u32(out, 6, times.dts);
     put_u8(out, 10, u8::from(kind));

@@ -7,11 +7,15 @@ ghost use Rattle.pgs_writer_base.specs.Rows.{entry_from};
 
 use pgs_base::refusal::Refusal;
 use pgs_pds::pds::{PaletteEntry, Pds};
+use pgs_segment::header::SegmentHeader;
 use pgs_views::segment_type::SegmentType;
 use pgs_writer_base::body::encode_list;
 use pgs_writer_base::head::Timestamps;
-use pgs_writer_base::put::put_bytes;
-use pgs_writer_base::rows::RowWriter;
+use pgs_writer_base::put::put_array;
+use pgs_writer_base::rows::{RowWriter, rows_fit};
+
+// The most entries: a body of 65,535 bytes has room for them behind its two numbers.
+const MOST: usize = 13106;
 
 // How entries are written.
 struct Entries;
@@ -34,7 +38,7 @@ impl RowWriter for Entries {
     }
 
     fn put(out: &mut [u8], row: [u8; 5]) {
-        put_bytes(out, 0, &row);
+        put_array(out, 0, &row);
     }
 }
 
@@ -47,6 +51,15 @@ pub fn encode_pds(
 ) -> Result<usize, Refusal>
     ensures { Wrote (pds_segment times.pts times.dts pds entries.now) out.old out.new result }
 {
+    // Entries are all of one size and can all be written, so that their number tells both refusals, and their sizes need not be added up: of
+    // `rows_fit`, which is true of each, the compiler leaves no loop.
+    if MOST < entries.len() {
+        return Err(Refusal::NotEncodable);
+    }
+    let total = SegmentHeader::SIZE + 2 + PaletteEntry::SIZE * entries.len();
+    if out.len() < total && rows_fit::<Entries>(entries) {
+        return Err(Refusal::BufferTooSmall);
+    }
     let numbers = [pds.palette_id, pds.palette_version_number];
     encode_list::<Entries>(times, SegmentType::Pds, &numbers, entries, out)
 }

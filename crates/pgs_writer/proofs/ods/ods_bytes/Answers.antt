@@ -1,6 +1,6 @@
--- `ods_bytes` lays out the numbers: a byte is one as it stands.
+-- `ods_bytes` lays out the numbers: a byte is one as it stands, and the declared length is put behind them.
 -- Assumes nothing.
-use Rattle.std.proofs.Common.{rules, ◌≡◌, ◌∷◌, [], ◌/◌, ◌%◌, w8, Fits, arith}
+use Rattle.std.proofs.Common.{rules, ◌≡◌, ◌∙◌, ◌∷◌, [], ◌/◌, ◌%◌, w8, Fits, arith}
 use Rattle.pgs_writer.proofs.ods.ods_bytes.Goals.{Start}
 use Rattle.pgs_writer.proofs.ods.ods_bytes.Goals as goal
 
@@ -16,6 +16,8 @@ returns c =
     let s = (goal.at.returns c).Start in
     let version : o.object_version_number ≡ o.object_version_number % 256 = omega (arith, (version-byte s).fits) in
     let flag : o.last_in_sequence_flag ≡ o.last_in_sequence_flag % 256 = omega (arith, (flag-byte s).fits) in
-    let high : o.object_data_length / 65536 % 256 ≡ o.object_data_length / 256 / 256 % 256 = omega arith in
-    rw (c.to_be_bytes.ensures, c.to_be_bytes-2.ensures)
-    (λ i. o.object_id / 256 % 256 ∷ o.object_id % 256 ∷ version i ∷ flag i ∷ high i ∷ o.object_data_length / 256 % 256 ∷ o.object_data_length % 256 ∷ [])
+    c.put_u24.ensures
+    ∙ rw (c.to_be_bytes.ensures)
+    (λ i.
+    o.object_id / 256 % 256 ∷ o.object_id % 256 ∷ version i ∷ flag i ∷ o.object_data_length / 256 / 256 % 256 ∷ o.object_data_length / 256 % 256
+    ∷ o.object_data_length % 256 ∷ [])

@@ -8,7 +8,7 @@ pub returns-then-at-out : goal.returns-then-at-out
 returns-then-at-out c =
     let n = c.min-n.result in
     let size : c.args.at + n - c.args.at ≡ n = omega arith in
-    rw (c.copy_from_slice.ensures.after, size)
+    rw (c.copy.ensures, size)
     (sets-trim c.args.out.now c.args.at c.args.bytes.now (omega arith) c.min-n.ensures)
 
 pub returns-else-at-out : goal.returns-else-at-out

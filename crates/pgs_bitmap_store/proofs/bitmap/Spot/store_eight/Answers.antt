@@ -1,6 +1,6 @@
 -- `store_eight` meets its contract: the eight pixels stored at once are those stored one by one. Assumes nothing.
 use mathlib.Core.List.{List, [], ◌∷◌, ◌++◌, append_assoc}
-use mathlib.Core.Path.{◌≡◌, sym, ap, ◌∙◌, subst, subst₂}
+use mathlib.Core.Path.{◌≡◌, refl, sym, ap, ◌∙◌, subst, subst₂}
 use Prim.Native.Nat.{ℕ, zero, suc, ◌+◌, ◌-◌, ◌≤◌, ◌<◌}
 use native.Mathlib.Omega.{arith}
 use lib.ListN.{length, get_or, set, length-set, take, drop, length-drop}
@@ -61,4 +61,4 @@ returns c =
     let size : spot.out + 8 - spot.out ≡ 8 = omega arith in
     let bytes : c.in-Some.eight.now ≡ take 8 (drop spot.at c.args.«data».now) = c.in-Some.ensures.cases.same ∙ ap (take 8) (to_end spot.at c.args.«data».now) in
     rw (c.further.ensures, c.copy_from_slice.ensures.after, size, bytes)
-    (omega arith, eight c.args.«data».now c.args.pixels.now spot c.requires.there c.requires.room c.requires.literals c.requires.storing)
+    (refl, eight c.args.«data».now c.args.pixels.now spot c.requires.there c.requires.room c.requires.literals c.requires.storing)

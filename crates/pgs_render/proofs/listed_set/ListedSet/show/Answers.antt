@@ -1,12 +1,16 @@
 use mathlib.Core.Path.{ap}
 use native.Mathlib.Omega.{arith}
 use Rattle.pgs_rendering.specs.declared.Shown.{Shown}
+use Rattle.pgs_rendering.proofs.ColorLaws.{empty-zeros}
 use Rattle.pgs_rendering.proofs.RenderLaws.{ready-storable, ready-present, ready-room, ready-stored, ready-painted}
 use Rattle.pgs_render.proofs.listed_set.ListedSet.show.Goals as goal
 
 pub store_bitmaps-requires : goal.store_bitmaps-requires
 store_bitmaps-requires c =
     let set = c.args.self.set in ready-storable set.stream.now set.begins c.args.self.listed c.requires
+
+pub fill_table-requires : goal.fill_table-requires
+fill_table-requires c = empty-zeros
 
 pub paint_placements-requires-clause-present : goal.paint_placements-requires-clause-present
 paint_placements-requires-clause-present c =
@@ -27,6 +31,6 @@ returns c =
       stored = ready-stored set.stream.now set.begins o.listed c.requires c.store_bitmaps.ensures;
       shown =
           ready-painted set.stream.now set.begins o.listed c.requires c.store_bitmaps.ensures behind.stream_value behind.from_value
-          c.composition.ensures o.bytes c.color_table-table.ensures (ap (λ (a : Shown). a.size) c.answer.ensures) c.placements.ensures
+          c.composition.ensures o.bytes c.fill_table.ensures (ap (λ (a : Shown). a.size) c.answer.ensures) c.placements.ensures
           c.clear_plane.ensures c.paint_placements.ensures;
     }

@@ -1,0 +1,4 @@
+use Rattle.pgs_c.proofs.writing.pgs_encode_ods.Goals as goal
+
+pub returns : goal.returns
+returns c = c.pgs_encode_ods.ensures
